@@ -24,14 +24,16 @@ READS: Dict[str, Set[str]] = {      # what the commands may use of modules that 
               access close devnull environ execve fchdir fsdecode fsencode fstat getcwd getcwdb geteuid getpid getppid getxattr
               isatty killpg listdir lseek open path pathsep pread read readlink scandir set_blocking setpgid stat
               stat_result strerror sysconf urandom write""".split()),
-    "shutil": {"get_terminal_size", "which"}, "tempfile": set(), "ctypes": {"CDLL"}, "pathlib": set(), "io": set(),
+    "shutil": {"get_terminal_size", "which", "rmtree"}, "tempfile": {"mkdtemp"}, "ctypes": {"CDLL"}, "pathlib": set(), "io": set(),
 }
-SAYING = {"output.py"}       # modules that write to standard output and standard error
+SAYING = {"output.py"}      # modules that write to standard output and standard error
+TEMPORARY = {"parv.py"}     # those that make and remove temporary folders
 CALLS = dict(pair.split(":") for pair in """mkdir:mkdir mkdirat:mkdir unlinkat:unlink unlink:unlink rmdir:rmdir
     symlinkat:symlink symlink:symlink renameat2:rename rename:rename renameat:rename linkat:link link:link write:write
     pwrite64:pwrite ftruncate:ftruncate truncate:ftruncate fchmod:fchmod fchmodat:fchmod chmod:fchmod
     fchown:fchown fchownat:fchown chown:fchown lchown:fchown utimensat:utimens
     fsync:fsync syncfs:syncfs openat:create""".split())     # calls of the system, and their names in `changes`
+OWN = re.compile(r'/parv-[^/"]+[">]')       # the temporary folder, which isn't made and removed by `changes`
 
 
 def modules() -> Iterator[Tuple[str, ast.Module]]:
@@ -53,6 +55,8 @@ def wrong_calls(name: str, tree: ast.Module) -> List[str]:
                 found.append("os.write")
             if node.attr == "O_RDWR" and name not in SAYING:
                 found.append("os.O_RDWR")
+            if node.attr in ("mkdtemp", "rmtree") and name not in TEMPORARY:
+                found.append(f"{node.value.id}.{node.attr}")
         if isinstance(node, ast.ImportFrom) and node.module in READS:
             found.append(f"from {node.module}")
         if isinstance(node, ast.Call) and isinstance(node.func, ast.Name) and node.func.id in ("open", "exec", "eval"):
@@ -88,7 +92,7 @@ class Changes(unittest.TestCase):
         above = os.path.dirname(PACKAGE)
         environment = {**os.environ, **room.environment(), "PYTHONPATH": above}
         run = "import sys; from parv_commands.repair.command import main; sys.argv = ['', 'room']; sys.exit(main())"
-        words = [strace, "-o", trace, "-e", "trace=" + ",".join(CALLS), sys.executable, "-B", "-S", "-c", run]
+        words = [strace, "-y", "-o", trace, "-e", "trace=" + ",".join(CALLS), sys.executable, "-B", "-S", "-c", run]
         ended = subprocess.run(words, cwd=room.top, env=environment, stdout=subprocess.DEVNULL)
         self.assertEqual((ended.returncode, room.lacks()), (0, []))
         made: Counter[str] = Counter()
@@ -97,7 +101,9 @@ class Changes(unittest.TestCase):
                 call = line.split("(")[0]
                 if call == "openat" and "O_CREAT" not in line and "O_WRONLY" not in line and "O_TRUNC" not in line:
                     continue
-                if call == "write" and re.match(r"write\([12],", line):
+                if call == "write" and re.match(r"write\([12]<", line):
+                    continue
+                if call in ("mkdir", "unlinkat", "rmdir") and OWN.search(line):
                     continue
                 if call in CALLS:
                     name = "rmdir" if call == "unlinkat" and "AT_REMOVEDIR" in line else CALLS[call]

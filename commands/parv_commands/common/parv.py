@@ -6,8 +6,9 @@ from __future__ import annotations
 import contextlib
 import os
 import re
-import secrets
+import shutil
 import stat
+import tempfile
 from typing import Dict, Iterable, Iterator, List, Mapping, Optional, Sequence, Tuple
 
 from . import changes, output, parv_output
@@ -41,41 +42,27 @@ class Links:
         return word
 
 
-def _clear(folder: Folder) -> None:
-    """Removes everything in a temporary folder, which has only files and links."""
-    for name in folder.names():
-        changes.remove_file(folder.place, name)
-
-
 @contextlib.contextmanager
 def folder_within(above: Folder) -> Iterator[Folder]:
-    """Makes a new folder for temporary files, and removes it when it isn't used any more."""
-    name = f"parv-{secrets.token_hex(8)}".encode()
+    """Makes a new folder for temporary files, and removes it when it isn't used any more. (TemporaryDirectory isn't used
+    because it may follow links: if one can't be removed, older versions change the mode of the file that it leads to.)"""
     with faults_of("make a temporary folder in", above.shown):
-        changes.make_folder(above.place, name, 0o700)
+        path = tempfile.mkdtemp(prefix="parv-", dir=f"/proc/self/fd/{above.place}")
     try:
         with faults_of("open", above.shown):
-            folder = above.inner(name)
-        try:
+            folder = above.inner(os.path.basename(path).encode())
+        with contextlib.closing(folder):
             yield folder
-        finally:
-            with contextlib.suppress(OSError):
-                _clear(folder)
-            folder.close()
     finally:
-        with contextlib.suppress(OSError):
-            changes.remove_folder(above.place, name)
+        shutil.rmtree(path, ignore_errors=True)
 
 
 @contextlib.contextmanager
 def temporary_folder() -> Iterator[Folder]:
     """Makes a folder for temporary files, which is removed however the command ends."""
     above = Folder.opened(os.fsencode(os.path.abspath(os.environ.get("TMPDIR") or "/tmp")))
-    try:
-        with folder_within(above) as folder:
-            yield folder
-    finally:
-        above.close()
+    with contextlib.closing(above), folder_within(above) as folder:
+        yield folder
 
 
 def path_below(folder: Folder, name: bytes) -> bytes:
