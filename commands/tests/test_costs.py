@@ -10,13 +10,12 @@ import unittest
 import unittest.mock
 from typing import Any, Callable, Dict, List
 
-from parv_commands.common.equal_files import SKETCH, Alike
 from parv_commands.common.folders import Folder, Identity, identity_of
 from parv_commands.common.names import shown, with_number
 from parv_commands.common.packets import Member, RecoverySet
 from parv_commands.repair import command as repair, journal
 from parv_commands.repair.journal import Made, Moves
-from parv_commands.repair.plan import Plan, plan_of
+from parv_commands.repair.plan import ENDS, Alike, Plan, plan_of
 from parv_commands.repair.situation import Situation
 from parv_commands.tree import command as tree
 
@@ -73,9 +72,9 @@ class Equal(unittest.TestCase):
         self.assertLess(counted[1], 4 * counted[0] + 50)
 
     def test_files_of_equal_content_are_told_from_others(self) -> None:
-        long = 3 * SKETCH
+        long = 3 * ENDS
         contents = [b"a" * long, b"a" * long, b"b" + b"a" * (long - 1), b"a" * (long - 1) + b"b",
-                    b"a" * SKETCH + b"b" + b"a" * (long - SKETCH - 1), b"a" * long, b"x", b"x", b"y", b"", b""]
+                    b"a" * ENDS + b"b" + b"a" * (long - ENDS - 1), b"a" * long, b"x", b"x", b"y", b"", b""]
         room = self.room_of({f"{number:02}": data for number, data in enumerate(contents)})
         folder = Folder.opened(os.fsencode(room.folder))
         self.addCleanup(folder.close)

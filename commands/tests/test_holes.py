@@ -60,16 +60,9 @@ class Files(unittest.TestCase):
             return real(opened, length, at)
         with unittest.mock.patch.object(os, "pread", counted):
             found = getattr(slices, does)(self.opened, *given)
-            if does == "pieces_around_holes":
-                found = b"".join(found)
         return found, sum(counts)
 
     def test_only_data_are_read(self) -> None:
-        with open(self.path, "rb") as file:
-            whole = file.read()
-        found, count = self.read_by("pieces_around_holes", 64 << 20)
-        self.assertEqual(found, whole)
-        self.assertLess(count, 3 << 20)
         zeros, count = self.read_by("zeros_in_holes", 64 << 20)
         self.assertEqual(count, 0)
         self.assertTrue(0 <= (64 << 20) - zeros - 2 * len(DATA) < 1 << 18, zeros)
@@ -89,7 +82,6 @@ class Files(unittest.TestCase):
         for answer in (lambda opened, at, how: at), unittest.mock.Mock(side_effect=OSError(22, "Invalid argument")):
             with unittest.mock.patch.object(os, "lseek", answer):
                 self.assertEqual(self.read_by("zeros_in_holes", 64 << 20)[0], 0)
-                self.assertEqual(self.read_by("pieces_around_holes", 64 << 20)[1], 64 << 20)
                 self.assertFalse(slices.is_hole(self.opened, 0, SIZE))
                 self.assertRaises(Refusal, fill, self.opened, bytes(9) + b"other" * 9, 3 << 20)
                 self.assertEqual(os.pread(self.opened, len(DATA), 3 << 20), DATA)

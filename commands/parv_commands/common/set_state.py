@@ -12,14 +12,14 @@ from __future__ import annotations
 
 import contextlib
 import errno
+import functools
 import itertools
 import os
 import re
 import stat
-from typing import BinaryIO, Callable, Dict, Iterable, List, NamedTuple, Optional, Sequence, Tuple
+from typing import BinaryIO, Callable, Container, Dict, Iterable, List, NamedTuple, Optional, Sequence, Tuple
 
 from . import changes, names, output, parv_output
-from .equal_files import is_same
 from .faults import FILES, IMPOSSIBLE, NO_SET, POSSIBLE, Fault, faults_of
 from .folders import Folder, Identity, identity_of
 from .names import RESERVED_NAMES, shown
@@ -31,9 +31,11 @@ from .signals import wait_point
 HERE = b"f"             # the link to the folder
 PLACE = 9               # bytes that an argument takes in addition to its own
 PART_OF_ROOM = 4        # paths take at most a fourth of a command line's capacity, so that short words fit too
+PIECE = 1 << 20
 MOST_NAMED = 3          # how many files a line names that aren't looked at
 _NUMBER = re.compile(rb"[0-9]+(\.par2)?")
 Report = Callable[[str], None]
+Opener = Callable[[], int]
 Sources = List[Optional[bytes]]     # for each file of the set, the path of a file with its content
 Unread = Dict[bytes, str]           # what isn't looked at, and why
 
@@ -231,6 +233,32 @@ class FolderWords:
 
 # The state of a set.
 
+def has_same_bytes(open_one: Opener, open_other: Opener) -> bool:
+    """Returns whether two files, which these open, have the same bytes."""
+    places: List[int] = []
+    try:
+        for opener in open_one, open_other:
+            places.append(opener())
+        at, sizes = 0, [os.fstat(place).st_size for place in places]
+        pieces = [b"", b""] if sizes[0] == sizes[1] else [b"", b"longer"]
+        while pieces[0] == pieces[1]:
+            wait_point()
+            pieces = [os.pread(place, PIECE, at) for place in places]
+            if not any(pieces):
+                return True
+            at += len(pieces[0])
+            output.show_progress(at)
+        return False
+    finally:
+        for place in places:
+            os.close(place)
+
+
+def is_same(folder: Folder, name: bytes, other: bytes) -> bool:
+    """Returns whether two files of a folder have the same bytes."""
+    return has_same_bytes(*(functools.partial(folder.open_to_read, each) for each in (name, other)))
+
+
 class SetState(NamedTuple):
     """The state of a set: its files as parv lists them, the files of the folder, for each file of the set the path of
     one with its content (its own name, if that is one), the verdict, and what wasn't looked at."""
@@ -366,7 +394,7 @@ class Verification:
                 if not state.there[file.name].fits(self.folder.look(file.name)):
                     raise Fault(FILES, f"{file.shown} has changed while it was read")
 
-    def _own_sources(self, sources: Sources, there: Dict[bytes, Identity]) -> Sources:
+    def _own_sources(self, sources: Sources, there: Container[bytes]) -> Sources:
         """Returns `sources`, but with the own name of each file that has its content there, even if parv names another
         one first."""
         own: Sources = []
@@ -394,10 +422,10 @@ class Verification:
         """Returns, for each file of the set, the path of one of these files with its content. parv gets as many of them
         at once as it accepts."""
         sources: Sources = [None] * len(self.the_set.files)
-        there, room = self.files.there, max(self.room, 1)
+        room = max(self.room, 1)
         for at in range(0, len(paths), room):
             part = paths[at:at + room]
             _, more = await self.words.verify(self.the_set, self.packet_words, part, False,
-                                              _most_bytes(there, part, False))
+                                              _most_bytes(self.files.there, part, False))
             sources = [source or other for source, other in zip(sources, more)]
-        return self._own_sources(sources, there)
+        return self._own_sources(sources, set(paths))

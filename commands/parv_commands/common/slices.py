@@ -115,22 +115,6 @@ def zeros_in_holes(opened: int, length: int) -> int:
     return count
 
 
-def pieces_around_holes(opened: int, length: int) -> Iterator[bytes]:
-    """Yields the bytes of a file with this length, with zeros for its holes."""
-    at = 0
-    while at < length:
-        data = data_from(opened, at)
-        end = length if data is None else min(data, length)
-        yield from _zeros(end - at)
-        at = end
-        if at < length:
-            piece = os.pread(opened, min(PIECE, length - at), at)
-            if not piece:
-                return
-            yield piece
-            at += len(piece)
-
-
 # Slices in their places.
 
 def is_there(opened: int, offset: int, own: int, size: int, sums: bytes) -> bool:

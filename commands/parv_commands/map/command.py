@@ -6,7 +6,7 @@ import contextlib
 import os
 import secrets
 import shutil
-from typing import BinaryIO, Dict, Iterator, List, NamedTuple, Optional, Sequence, Set
+from typing import Dict, Iterator, List, NamedTuple, Optional, Sequence, Set
 
 from ..common import arguments, changes, output, signals
 from ..common.command_files import CommandFiles, link_files, most_files_at_once, read_set
@@ -14,10 +14,11 @@ from ..common.faults import FILES, USAGE, Fault, faults_of
 from ..common.names import base_of, shown
 from ..common.packets import Member, RecoverySet
 from ..common.parv import Links, Parv, temporary_folder
-from ..common.parv_output import SetAnswer, State
+from ..common.parv_output import NoAnswer, SetAnswer
 from ..common.programs import finished
 from ..common.search import ScannedFile, Search
-from ..common.slices import is_there, md5_of, pieces_of_file, with_progress
+from ..common.set_state import has_same_bytes
+from ..common.slices import is_there
 from . import pictures
 from .pictures import IN_PLACE, MISSING, MOVED, NOT_KNOWN, Map
 
@@ -67,41 +68,40 @@ def bare(path: bytes, base: bytes) -> bytes:
     return path[len(front):] if base and path.startswith(front) else path
 
 
-def _is_in_place(the_set: RecoverySet, file: Member, number: int, opened: BinaryIO, tails: bool) -> bool:
+def _is_in_place(the_set: RecoverySet, file: Member, number: int, opened: int, tails: bool) -> bool:
     """Returns whether an open file has the slice at its offset, by the rules of parv."""
     if file.sums is None:
         return False
     size, own, offset = the_set.size, the_set.own_length(file, number), number * the_set.size
-    rest = os.fstat(opened.fileno()).st_size - offset
-    compared_length = own if tails else max(own, min(size, rest))
-    return is_there(opened.fileno(), offset, compared_length, size, file.sums[number])
+    compared_length = own if tails else max(own, min(size, os.fstat(opened).st_size - offset))
+    return is_there(opened, offset, compared_length, size, file.sums[number])
 
 
-def _map_in_place(the_set: RecoverySet, file: Member, paths: Sequence[bytes], tails: bool) -> Map:
-    """Returns the map of a file from the scanned files with its name. All other slices are missing, or not known."""
+def _map_in_place(the_set: RecoverySet, file: Member, own: Sequence[ScannedFile], tails: bool) -> Map:
+    """Returns the map of a file from the searched files with its name. All other slices are missing, or not known."""
     states = [NOT_KNOWN if file.sums is None else MISSING] * file.slices
-    for path in paths if file.sums else []:
-        with output.doing(f"{file.shown} is read", file.length), faults_of("read", shown(path)), \
-                open(path, "rb") as opened:
-            for number in range(file.slices):
-                signals.wait_point()
-                output.show_progress(number * the_set.size)
-                if states[number] != IN_PLACE and _is_in_place(the_set, file, number, opened, tails):
-                    states[number] = IN_PLACE
+    for scanned_file in own if file.sums else []:
+        with output.doing(f"{file.shown} is read", file.length), faults_of("read", scanned_file.shown):
+            opened = scanned_file.opener()
+            try:
+                for number in range(file.slices):
+                    signals.wait_point()
+                    output.show_progress(number * the_set.size)
+                    if states[number] != IN_PLACE and _is_in_place(the_set, file, number, opened, tails):
+                        states[number] = IN_PLACE
+            finally:
+                os.close(opened)
     return Map(file, states, {})
 
 
-def _has_content(path: bytes, file: Member) -> bool:
-    with output.doing(f"{file.shown} is read", file.length), faults_of("read", shown(path)), \
-            open(path, "rb") as opened:
-        return md5_of(with_progress(pieces_of_file(opened.fileno()))) == file.whole
-
-
-def _map_of_unknown(file: Member, state: State, paths: Sequence[bytes]) -> Map:
-    """Returns the map of a file whose slices have no checksums, from what parv says about the whole file."""
-    if state.word is None:
-        return Map(file, [NOT_KNOWN] * file.slices, {})
-    return Map(file, [IN_PLACE if any(_has_content(path, file) for path in paths) else MOVED] * file.slices, {})
+def _map_of_unknown(file: Member, source: Optional[ScannedFile], own: Sequence[ScannedFile]) -> Map:
+    """Returns the map of a file whose slices have no checksums, from the searched file that has its content according to
+    parv, and those that have its name."""
+    state = NOT_KNOWN
+    if source is not None:
+        with output.doing("equal files are compared"):
+            state = IN_PLACE if source in own or any(has_same_bytes(source.opener, each.opener) for each in own) else MOVED
+    return Map(file, [state] * file.slices, {})
 
 
 def _may_be_whole(the_set: RecoverySet, files: CommandFiles, most_files: int) -> List[ScannedFile]:
@@ -118,18 +118,20 @@ def _may_be_whole(the_set: RecoverySet, files: CommandFiles, most_files: int) ->
 def maps_of(the_set: RecoverySet, answer: SetAnswer, files: CommandFiles, parv: Parv, tails: bool, base: bytes,
             most_files: int) -> List[Map]:
     """Returns the maps of all files. parv gets `most_files` at once."""
-    by_name: Dict[bytes, List[bytes]] = {}
+    by_name: Dict[bytes, List[ScannedFile]] = {}
     for scanned_file in files.scanned_files:
-        path = files.paths[scanned_file.word]
-        by_name.setdefault(bare(path, base), []).append(path)
+        by_name.setdefault(bare(files.paths[scanned_file.word], base), []).append(scanned_file)
     maps = [_map_in_place(the_set, file, by_name.get(file.name, []), tails) for file in the_set.files]
     if any(file.sums is None and file.slices for file in the_set.files):
         candidates = _may_be_whole(the_set, files, most_files)
         most = sum(file.length for file in candidates) * 2
-        words = [file.word for file in candidates]
-        verdict = finished(parv.verify(answer, files.packet_words, words, False, most))
-        maps = [_map_of_unknown(each.file, state, by_name.get(each.file.name, [])) if each.file.sums is None else each
-                for each, state in zip(maps, verdict.states)]
+        by_word = {file.word: file for file in candidates}
+        verdict = finished(parv.verify(answer, files.packet_words, list(by_word), False, most))
+        if any(state.word not in (None, *by_word) for state in verdict.states):
+            raise NoAnswer("verify")
+        sources = [by_word.get(state.word or "") for state in verdict.states]
+        maps = [_map_of_unknown(each.file, source, by_name.get(each.file.name, [])) if each.file.sums is None else each
+                for each, source in zip(maps, sources)]
     search = Search(the_set, parv, files.scanned_files, tails, _missing(maps), most_files=most_files)
     _find_moved_slices(maps, search)
     return maps

@@ -10,7 +10,6 @@ import stat
 from typing import Dict, List, NamedTuple, NoReturn, Optional, Sequence, Set
 
 from ..common import changes, output
-from ..common.equal_files import is_same
 from ..common.faults import FILES, NO_REPAIR, Fault, NoProgram, Refusal, faults_of
 from ..common.folders import Folder
 from ..common.names import shown
@@ -18,6 +17,7 @@ from ..common.packets import PacketFiles, RecoverySet, recovery_lines, write_for
 from ..common.parv_output import PacketLine
 from ..common.programs import Program, answer_of, find_program, finished
 from ..common.search import ScannedFile
+from ..common.set_state import is_same
 from ..common.signals import wait_point
 from ..common.slices import fill
 from .situation import Inspection, Situation

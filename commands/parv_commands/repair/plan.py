@@ -2,17 +2,21 @@
 
 from __future__ import annotations
 
+import collections
+import hashlib
 import os
-from typing import Callable, Dict, List, NamedTuple, Optional, Sequence, Set
+from typing import Callable, Deque, Dict, Iterable, List, Mapping, NamedTuple, Optional, Sequence, Set, Tuple
 
-from ..common.equal_files import Alike
 from ..common.faults import Refusal
-from ..common.folders import Identity
+from ..common.folders import Folder, Identity
 from ..common.names import UsedNames, has_room_for_number, is_reserved, shown
 from ..common.signals import wait_point
+from ..common.slices import pieces_of_file, with_progress
 from .journal import ASIDE, Made, Move, Step
 from .situation import Situation
 from .work_folder import MADE, path_of
+
+ENDS = 1 << 14          # the bytes at each end of a file that are compared first
 
 
 class Copy(NamedTuple):
@@ -58,6 +62,64 @@ class Plan(NamedTuple):
     def made(self) -> List[bytes]:
         """Returns the paths of files in the stage that get a name."""
         return [each.origin for each in self.moves_in if each.file not in self.there]
+
+
+def _hash_of_ends(opened: int, length: int) -> bytes:
+    """Returns the hash of both ends of a file, by which most different files of one length differ."""
+    hashed = hashlib.blake2b(os.pread(opened, ENDS, 0))
+    hashed.update(os.pread(opened, ENDS, max(length - ENDS, 0)))
+    return hashed.digest()
+
+
+def _hash_of_all(opened: int) -> bytes:
+    hashed = hashlib.blake2b()
+    for piece in with_progress(pieces_of_file(opened)):
+        hashed.update(piece)
+    return hashed.digest()
+
+
+class Alike:
+    """Files of a folder, and which of them have the same content."""
+
+    def __init__(self, folder: Folder, there: Mapping[bytes, Identity]) -> None:
+        self.folder, self.there = folder, there
+        self._by_length: Optional[Dict[Optional[int], List[bytes]]] = None
+        self._groups: Dict[bytes, Deque[bytes]] = {}    # for a file, those of its content, in their order
+
+    def of(self, name: bytes) -> Deque[bytes]:
+        """Returns the files with the content of a file, of which the caller may remove some."""
+        if self._by_length is None:
+            self._by_length = {}
+            for path, now in self.there.items():
+                self._by_length.setdefault(now.length, []).append(path)
+        if name not in self._groups:
+            self._group(self.there[name].length or 0, self._by_length[self.there[name].length])
+        return self._groups[name]
+
+    def _group(self, length: int, names: List[bytes]) -> None:
+        """Groups all files of a length. Those whose ends are alike are read completely."""
+        first = _grouped((self._of(name, lambda opened: _hash_of_ends(opened, length)), name) for name in names)
+        for some in first:
+            groups = [some] if len(some) == 1 or length <= 2 * ENDS else _grouped(
+                (self._of(name, _hash_of_all), name) for name in some)
+            for group in groups:
+                shared = collections.deque(group)
+                self._groups.update(dict.fromkeys(group, shared))
+
+    def _of(self, name: bytes, hashed: Callable[[int], bytes]) -> bytes:
+        opened = self.folder.open_to_read(name)
+        try:
+            wait_point()
+            return hashed(opened)
+        finally:
+            os.close(opened)
+
+
+def _grouped(pairs: Iterable[Tuple[bytes, bytes]]) -> List[List[bytes]]:
+    groups: Dict[bytes, List[bytes]] = {}
+    for key, name in pairs:
+        groups.setdefault(key, []).append(name)
+    return list(groups.values())
 
 
 def plan_of(situation: Situation) -> Plan:

@@ -8,7 +8,6 @@ import stat
 from typing import Dict, List, NamedTuple, Optional, Sequence, Set
 
 from ..common import names, output
-from ..common.equal_files import is_same
 from ..common.faults import FILES, IMPOSSIBLE, NO_REPAIR, NO_SET, USAGE, Fault, Refusal
 from ..common.folders import Folder, Identity
 from ..common.names import RESERVED_NAMES, shown
@@ -17,7 +16,7 @@ from ..common.parv import Links, Parv
 from ..common.parv_output import PacketLine, SetAnswer
 from ..common.programs import Program, finished
 from ..common.search import ScannedFile, Search
-from ..common.set_state import FolderWords, PacketFileNames, SetState, Sources, Verification, packet_files_of, text_of
+from ..common.set_state import FolderWords, PacketFileNames, SetState, Sources, Verification, is_same, packet_files_of, text_of
 from ..common.signals import wait_point
 from . import work_folder
 from .work_folder import FILES_OF_PAR2, MADE, name_for, path_of

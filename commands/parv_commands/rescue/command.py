@@ -3,22 +3,25 @@
 from __future__ import annotations
 
 import contextlib
+import functools
 import hashlib
 import os
 import stat
 import time
-from typing import Dict, List, NamedTuple, Optional, Set, Tuple
+from typing import Callable, Dict, List, NamedTuple, Optional, Set, Tuple
 
 from ..common import arguments, changes, output, seals, signals
 from ..common.command_files import CommandFiles, link_files, most_files_at_once, read_set
 from ..common.faults import FILES, NO_SET, USAGE, Fault, Refusal, faults_of
 from ..common.folders import Folder
 from ..common.names import base_of, shown
-from ..common.packets import Member, RecoverySet
+from ..common.packets import Member, RecoverySet, packets_for
 from ..common.parv import Links, Parv, temporary_folder
+from ..common.programs import finished
 from ..common.search import ScannedFile, Search
-from ..common.slices import crc_of, is_there, md5_of, pieces_around_holes, with_progress, zeros_in_holes
-from .record import KIND, NAME, Record, is_in, stamp_of
+from ..common.set_state import FolderWords, Verification
+from ..common.slices import crc_of, is_there, md5_of, zeros_in_holes
+from .record import KIND, NAME, Record, Stamp, is_in, stamp_of
 from .writer import OTHER, PLACE_IN_USE, Writer
 
 WITHOUT_TAILS, WITH_TAILS = "expected", "tails"     # the two kinds of search, as the record names them
@@ -26,6 +29,8 @@ MOST_TAILS = 256        # the most lengths that parv looks for at once
 PAUSE = 4               # the least number of seconds between two entries into the record
 FREE_ZEROS = 1 << 30    # the most zeros in holes that a run hashes, in addition to ..
 MOST_ZEROS = 64         # .. this number of zeros for each byte of a file that isn't in a hole
+WHOLE = "whole"         # a file that isn't seen to lack a slice, so parv is asked whether it is complete
+DESCRIPTIONS = b"descriptions.par2"     # of the files only: without checksums of slices, parv reads each file once
 
 DESCRIPTION = """\
 Searches an image, a download or other files for the slices of a PAR2 set, and
@@ -97,27 +102,36 @@ def mark_of(files: CommandFiles, the_set: RecoverySet) -> str:
 
 
 class States:
-    """The states of the files at the end of a run, as their content is then. Each file that is called complete is read
-    as a whole."""
+    """The states of the files at the end of a run, as their content is then. A file is complete if parv says so."""
 
-    def __init__(self, the_set: RecoverySet, folder: Folder, writer: Writer) -> None:
-        self.the_set, self.folder, self.writer = the_set, folder, writer
+    def __init__(self, the_set: RecoverySet, writer: Writer, verification: Verification) -> None:
+        self.the_set, self.folder, self.writer, self.verification = the_set, writer.folder, writer, verification
         self.zeros = FREE_ZEROS             # how many zeros in holes may still be hashed
-        self.counts: Dict[str, int] = {}    # how many slices of a file are in their places, by its ID
+        self.counts = {file.id: sum(map(writer.has, file.numbers)) for file in the_set.files}
+        self._stamps: Dict[str, Stamp] = {}
 
-    def state_of(self, file: Member) -> str:
-        """Returns the state of a file. If something else is in its place, it is refused."""
-        self.counts[file.id] = sum(map(self.writer.has, file.numbers))
+    def states(self) -> List[str]:
+        """Returns the state of each file. If something else is in the place of one, it is refused."""
+        states = [self._unless_refused(file, self._look) for file in self.the_set.files]
+        names = [file.name for file, state in zip(self.the_set.files, states) if state == WHOLE]
+        sources = finished(self.verification.sources_in_parts(names))
+        for number, (file, source) in enumerate(zip(self.the_set.files, sources)):
+            if states[number] == WHOLE:
+                states[number] = self._unless_refused(file, functools.partial(self._verdict, source == file.name))
+        return states
+
+    def _unless_refused(self, file: Member, look: Callable[[Member], str]) -> str:
         if file.id not in self.writer.refused_files:
             try:
-                return self._state(file)
+                return look(file)
             except Refusal as why:
                 self.writer.refuse(file, str(why))
             except OSError as fault:
                 self.writer.refuse(file, f"its place can't be read: {fault.strerror}")
         return "refused"
 
-    def _state(self, file: Member) -> str:
+    def _look(self, file: Member) -> str:
+        """Returns the state of a file as far as it is known without parv."""
         place = self._open(file)
         if place is None:
             if self.counts[file.id]:
@@ -125,18 +139,34 @@ class States:
             return "missing"
         try:
             before = os.fstat(place)
-            is_own = self.writer.stamps.get(file.id) == stamp_of(before)
-            if is_own and before.st_size == 0 < file.length:    # a run was ended before it gave the file its length
-                return "missing"
-            other = OTHER if file.id in self.writer.stamps else PLACE_IN_USE
+            if self._is_own(file, before) and before.st_size == 0 < file.length:
+                return "missing"        # a run was ended before it gave the file its length
             if not stat.S_ISREG(before.st_mode) or before.st_size != file.length:
-                raise Refusal(other)
+                raise Refusal(self._other(file))
             state = self._read(file, place)
-            if stamp_of(os.fstat(place)) != stamp_of(before) or not is_own and state != "complete":
-                raise Refusal(other)
+            if stamp_of(os.fstat(place)) != stamp_of(before) or state != WHOLE and not self._is_own(file, before):
+                raise Refusal(self._other(file))
+            self._stamps[file.id] = stamp_of(before)
             return state
         finally:
             os.close(place)
+
+    def _verdict(self, is_complete: bool, file: Member) -> str:
+        """Returns the state of a file that has stayed the same while parv read it."""
+        now = self.folder.look(file.name)
+        if now is None or stamp_of(now) != self._stamps[file.id] or not is_complete and not self._is_own(file, now):
+            raise Refusal(self._other(file))
+        if is_complete:
+            return "complete"
+        count = self.counts[file.id]
+        return "wrong" if count == file.slices else "damaged" if count else "missing"
+
+    def _is_own(self, file: Member, now: os.stat_result) -> bool:
+        """Returns whether a file is as runs have left it."""
+        return self.writer.stamps.get(file.id) == stamp_of(now)
+
+    def _other(self, file: Member) -> str:
+        return OTHER if file.id in self.writer.stamps else PLACE_IN_USE
 
     def _open(self, file: Member) -> Optional[int]:
         """Opens what has the name of a file, or returns None if nothing has."""
@@ -148,20 +178,14 @@ class States:
             return None
 
     def _read(self, file: Member, place: int) -> str:
-        """Returns the state of an open file. It is read as a whole if no slice is seen to be missing."""
+        """Returns the state of an open file. It is whole if no slice is seen to be missing."""
         size = self.the_set.size
         for number, sums in zip(file.numbers, file.sums or []):
             at = number - file.first
             if not self.writer.has(number) and not is_there(
                     place, at * size, self.the_set.own_length(file, at), size, sums):
                 return "damaged" if self.counts[file.id] else "missing"
-        if not self._may_be_hashed(file, place):
-            return "unverified"
-        with output.doing(f"{file.shown} is verified", file.length):
-            is_right = md5_of(with_progress(pieces_around_holes(place, file.length))) == file.whole
-        if is_right:
-            return "complete"
-        return "wrong" if self.counts[file.id] == file.slices else "damaged" if self.counts[file.id] else "missing"
+        return WHOLE if self._may_be_hashed(file, place) else "unverified"
 
     def _may_be_hashed(self, file: Member, place: int) -> bool:
         """Returns whether the holes of a file aren't much longer than the rest. Then the zeros there are hashed."""
@@ -177,10 +201,10 @@ class States:
 class Rescue:
     """A run over a folder. parv gets `most_files` of the searched files at once."""
 
-    def __init__(self, the_set: RecoverySet, files: CommandFiles, parv: Parv, writer: Writer,
+    def __init__(self, the_set: RecoverySet, files: CommandFiles, writer: Writer, verification: Verification,
                  most_files: int) -> None:
-        self.the_set, self.files, self.parv = the_set, files, parv
-        self.writer, self.most_files = writer, most_files
+        self.the_set, self.files, self.parv = the_set, files, verification.words.parv
+        self.writer, self.verification, self.most_files = writer, verification, most_files
         self.complete_files: Set[str] = set()     # the IDs of files that are reported as complete
 
     def search(self, tails: bool, targets: Set[int]) -> Search:
@@ -288,11 +312,10 @@ class Rescue:
                 *[f"hole {at} {length} {file.shown}" for at, length in gaps]]
 
     def _ending(self) -> Tuple[int, List[str]]:
-        states = States(self.the_set, self.writer.folder, self.writer)
+        states = States(self.the_set, self.writer, self.verification)
         lines: List[str] = []
         there = 0
-        for file in self.the_set.files:
-            state = states.state_of(file)
+        for file, state in zip(self.the_set.files, states.states()):
             count = states.counts[file.id]
             lines += self._lines_about(file, state, count)
             if state == "complete":
@@ -313,11 +336,15 @@ def rescue(options: Options) -> int:
     with temporary_folder() as temporary:
         parv = Parv(program, Links(temporary, ()))
         files = link_files(parv, options.files)
-        the_set = read_set(parv, files, options.set_id)[1]
+        answer, the_set = read_set(parv, files, options.set_id)
         seals.seal_to_write(KIND)       # so that nothing is made if there can't be a record
         folder = open_folder(options.folder)
         writer = Writer(the_set, folder, Record(folder, the_set.id), mark_of(files, the_set))
-        status, lines, missing = Rescue(the_set, files, parv, writer, most_files).run(options.tails)
+        parv.links.kept = (folder.place,)
+        with faults_of("write in", temporary.shown), changes.new_file(temporary.place, DESCRIPTIONS) as opened:
+            changes.write(opened, packets_for(the_set, set()))
+        verification = Verification(FolderWords(folder, parv), answer, [DESCRIPTIONS.decode()], most_files, output.say)
+        status, lines, missing = Rescue(the_set, files, writer, verification, most_files).run(options.tails)
     signals.forget_signals()
     output.tell(lines)
     if missing:

@@ -7,7 +7,6 @@ import os
 from typing import Callable, Dict, Generator, Iterator, List, NamedTuple, Optional, Sequence
 
 from ..common import changes, names, parv_output
-from ..common.equal_files import is_same
 from ..common.faults import POSSIBLE, faults_of
 from ..common.folder_files import files_there, leads_through_link, preferred, subfolders_of
 from ..common.folders import Folder, Identity
@@ -16,6 +15,7 @@ from ..common.parv import MOST_FILES, SPARE_FILES, Parv, path_below
 from ..common.parv_output import SetAnswer, Verdict
 from ..common.pool import Call
 from ..common.programs import Answer
+from ..common.set_state import is_same
 from ..common.signals import wait_point
 
 HERE = b"f"             # the link to the folder
