@@ -3,6 +3,7 @@ parv's, programs that end with a command, and progress on a terminal."""
 
 from __future__ import annotations
 
+import asyncio
 import itertools
 import os
 import pty
@@ -109,12 +110,40 @@ class Answers(unittest.TestCase):
             self.assertRaises(Fault, parv_output.read_sighting, text)
 
 
+def memory_is_refused() -> None:
+    raise MemoryError
+
+
+def memory_is_refused_soon() -> None:
+    """Lets the event loop itself fail."""
+    asyncio.get_running_loop().call_soon(memory_is_refused)
+
+
 class Programs(unittest.TestCase):
     def test_what_a_program_has_started_ends_with_it(self) -> None:
-        with programs.running(programs.Program("/bin/sh", "sh"), [b"-c", b"sleep 900 & echo $!; wait"]) as process:
-            assert process.stdout is not None
-            started = int(process.stdout.readline())
+        call = programs.Call(programs.Program("/bin/sh", "sh"), [b"-c", b"sleep 900 & echo $!; wait"])
+        with programs.running(call) as process:
+            started = int(programs.finished(process.output())[1])
         self.assertEqual(left_running(started), [])
+
+    def test_all_programs_end_if_a_task_or_the_loop_fails(self) -> None:
+        call = programs.Call(programs.Program("/bin/sh", "sh"), [b"-c", b"echo $$; exec sleep 900"])
+        for fails in memory_is_refused, memory_is_refused_soon:
+            numbers: List[int] = []
+
+            def take(piece: bytes) -> None:
+                numbers.append(int(piece))
+                if len(numbers) == 3:
+                    fails()
+
+            async def run() -> None:
+                await asyncio.gather(*(programs.answer_of(call, take) for _ in range(3)))
+            self.assertRaises(MemoryError, programs.finished, run())
+            self.assertEqual((len(numbers), left_running(*numbers)), (3, []))
+
+    def test_a_program_that_has_closed_its_outputs_is_waited_for(self) -> None:
+        call = programs.Call(programs.Program("/bin/sh", "sh"), [b"-c", b"echo out; exec >&- 2>&-; sleep 0.2; exit 7"])
+        self.assertEqual(programs.finished(programs.answer_of(call)), (7, b"out\n", b""))
 
 
 class Progress(unittest.TestCase):

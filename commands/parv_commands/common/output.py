@@ -7,7 +7,7 @@ import contextlib
 import os
 import threading
 import time
-from typing import Iterable, Iterator, Optional
+from typing import Dict, Iterable, Iterator, Optional
 
 from .faults import FILES, Fault
 
@@ -74,14 +74,15 @@ def say(text: str) -> None:
 # Progress.
 
 class _Progress:
-    """What is being done now, its greatest number of bytes, whether the line is shown at once and with the speed, and
-    the start."""
+    """What is being done now, its greatest number of bytes, whether the line is shown at once and with the speed, the
+    start, and how many bytes each program has read that was run for it."""
     what: str = ""
     most: int = 0
     at_once: bool = False
     count: int = 0
     is_shown: bool = False
     start: float = 0.0
+    reads: Dict[int, int] = {}
     last: float = 0.0
     is_terminal: Optional[bool] = None
 
@@ -115,15 +116,16 @@ def can_show_progress() -> bool:
 @contextlib.contextmanager
 def doing(what: str, most: int = 0, at_once: bool = False) -> Iterator[None]:
     """Says what is being done, as long as it lasts, and how many bytes it has to handle at most, if that is known."""
-    before = _Progress.what, _Progress.most, _Progress.at_once, _Progress.start
+    before = _Progress.what, _Progress.most, _Progress.at_once, _Progress.start, _Progress.reads
     _Progress.what, _Progress.most, _Progress.at_once, _Progress.start = what, most, at_once, time.monotonic()
+    _Progress.reads = {}
     if at_once:
         _Progress.last, _Progress.count = _Progress.start, 0
     try:
         yield
     finally:
         clear_progress()
-        _Progress.what, _Progress.most, _Progress.at_once, _Progress.start = before
+        _Progress.what, _Progress.most, _Progress.at_once, _Progress.start, _Progress.reads = before
 
 
 def stop_progress() -> None:
@@ -148,6 +150,13 @@ def show_progress(count: Optional[int]) -> None:
         line = f"{_Progress.what}{text and ': '}{text}{most}"
     _write_progress(f"\r\033[K{line}")
     _Progress.last, _Progress.is_shown, _Progress.count = now, True, count or 0
+
+
+def show_bytes_read(pid: int) -> None:
+    """Shows how many bytes this program and those before it have read."""
+    if _Progress.what and _is_terminal():
+        _Progress.reads[pid] = max(_Progress.reads.get(pid, 0), bytes_read_by(pid))
+        show_progress(sum(_Progress.reads.values()))
 
 
 @contextlib.contextmanager

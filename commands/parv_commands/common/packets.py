@@ -8,11 +8,11 @@ import os
 from typing import (BinaryIO, Callable, Dict, Generator, Iterable, Iterator, List, NamedTuple, Optional, Sequence, Set,
                     Tuple)
 
-from . import changes, output
+from . import changes
 from .faults import FILES, Fault, faults_of
 from .parv import Parv
 from .parv_output import NoAnswer, PacketLine, PacketLines, SetAnswer
-from .programs import Said, pieces_of, running, status_of, too_much
+from .programs import too_much
 
 MAGIC = b"PAR2\0PKT"
 HEADER = 64
@@ -79,17 +79,12 @@ class Listing(NamedTuple):
 
 def _packet_lines(parv: Parv, words: Sequence[str], most: int) -> Generator[PacketLine, None, None]:
     """Yields the packets of these packet files as parv lists them. There can't be more than `most`."""
-    reader, standard_error = PacketLines(), Said(parv.program)
-    arguments = [b"packets", b"--", *map(str.encode, words)]
-    with output.doing("parv packets"), running(parv.program, arguments, parv.links.folder.place,
-                                               parv.links.kept) as process:
-        for piece in pieces_of(process, standard_error):
+    reader = PacketLines()
+    with parv.pieces("packets", ["--", *words]) as pieces:
+        for piece in pieces:
             yield from reader.take(piece)
             if reader.count > most:
                 raise too_much(parv.program)
-        status = status_of(process)
-    if status != 0:
-        raise parv.fault_of(status, bytes(standard_error), "packets")
     reader.end()
 
 

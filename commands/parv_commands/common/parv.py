@@ -9,13 +9,13 @@ import re
 import shutil
 import stat
 import tempfile
-from typing import Dict, Iterable, Iterator, List, Mapping, Optional, Sequence, Tuple
+from typing import Callable, Container, Dict, Iterable, Iterator, List, Mapping, Optional, Sequence, Tuple
 
 from . import changes, output, parv_output
 from .faults import FILES, MEMORY, NO_SET, USAGE, Fault, NoProgram, faults_of
 from .folders import Folder
 from .names import is_packet_file, shown
-from .programs import Answer, Program, answer_of
+from .programs import Answer, Call, Program, answer_of, pieces_of
 
 MOST_FILES = 65_535         # the most files in one command line
 SPARE_FILES = 32            # files that are open in addition to those that are named
@@ -44,8 +44,8 @@ class Links:
 
 @contextlib.contextmanager
 def folder_within(above: Folder) -> Iterator[Folder]:
-    """Makes a new folder for temporary files, and removes it when it isn't used any more. (TemporaryDirectory isn't used
-    because it may follow links: if one can't be removed, older versions change the mode of the file that it leads to.)"""
+    """Makes a new folder for temporary files, and removes it when it isn't used any more. (TemporaryDirectory could do
+    that. But if it can't remove a link, older versions of it change the mode of the file to which that leads.)"""
     with faults_of("make a temporary folder in", above.shown):
         path = tempfile.mkdtemp(prefix="parv-", dir=f"/proc/self/fd/{above.place}")
     try:
@@ -102,41 +102,52 @@ def most_read(files: Iterable[bytes], times: int) -> int:
 
 
 class Parv:
-    """The program, and the links to the files that it gets."""
+    """The program, and the links to the files that it gets. `shows` is whether each run is shown on a terminal."""
 
-    def __init__(self, program: Program, links: Links) -> None:
-        self.program, self.links = program, links
+    def __init__(self, program: Program, links: Links, shows: bool = True) -> None:
+        self.program, self.links, self.shows = program, links, shows
+
+    def _call(self, command: str, words: Sequence[str]) -> Call:
+        return Call(self.program, [word.encode() for word in (command, *words)], self.links.folder.place,
+                    self.links.kept)
 
     def fault_of(self, status: int, said: bytes, command: str) -> Fault:
         """Returns the error of a run without an answer."""
         return fault_of(self.program, status, said, command, self.links.shown)
 
-    async def answer(self, command: str, words: Sequence[str], most: int = 0) -> Answer:
+    @contextlib.contextmanager
+    def pieces(self, command: str, words: Sequence[str], most: int = 0) -> Iterator[Iterator[bytes]]:
+        """Runs parv and gives its answer, in pieces, as it comes. It must end with 0."""
+        def fault(status: int, said: bytes) -> Fault:
+            return self.fault_of(status, said, command)
         with output.doing(f"parv {command}", most):
-            return await answer_of(self.program, [command.encode(), *map(os.fsencode, words)], self.links.folder.place,
-                             self.links.kept)
+            with contextlib.closing(pieces_of(self._call(command, words), fault)) as pieces:
+                yield pieces
 
-    async def text(self, command: str, words: Sequence[str]) -> bytes:
-        ended = await self.answer(command, words)
-        if ended.status != 0:
+    async def answer(self, command: str, words: Sequence[str], statuses: Container[int] = (0,), most: int = 0,
+                     takes: Optional[Callable[[bytes], None]] = None) -> Answer:
+        """Runs parv, which must end with one of these statuses. If `takes` gets the answer as it comes, it isn't
+        returned."""
+        with output.doing(f"parv {command}", most) if self.shows else contextlib.nullcontext():
+            ended = await answer_of(self._call(command, words), takes)
+        if ended.status not in statuses:
             raise self.fault_of(ended.status, ended.said, command)
-        return ended.out
+        return ended
 
     async def set(self, packet_words: Sequence[str], chosen: Optional[str]) -> parv_output.SetAnswer:
-        return parv_output.read_set(await self.text("set", [*(["--set", chosen] if chosen else []), "--", *packet_words]))
+        ended = await self.answer("set", [*(["--set", chosen] if chosen else []), "--", *packet_words])
+        return parv_output.read_set(ended.out)
 
     async def packets(self, packet_words: Sequence[str], chosen: Optional[str] = None) -> List[parv_output.PacketLine]:
-        found = parv_output.read_packets(await self.text("packets", [*(["--set", chosen] if chosen else []), "--",
-                                                           *packet_words]))
+        ended = await self.answer("packets", [*(["--set", chosen] if chosen else []), "--", *packet_words])
+        found = parv_output.read_packets(ended.out)
         if not all(packet.word in self.links.shown for packet in found):
             raise parv_output.NoAnswer("packets")
         return found
 
-    async def verify(self, found: parv_output.SetAnswer, packet_words: Sequence[str], words: Sequence[str], tails: bool = False,
-                     most: int = 0, base: str = "") -> parv_output.Verdict:
+    async def verify(self, found: parv_output.SetAnswer, packet_words: Sequence[str], words: Sequence[str],
+                     tails: bool = False, most: int = 0, base: str = "") -> parv_output.Verdict:
         """Returns the verdict over these files. Ends with an error of parv if there is none."""
-        ended = await self.answer("verify", [*(["--tails"] if tails else []), *(["-B", base] if base else []),
-                                             "--set", found.id, "--", *packet_words, *words], most)
-        if ended.status not in (0, 1, 2):
-            raise self.fault_of(ended.status, ended.said, "verify")
+        ended = await self.answer("verify", [*(["--tails"] if tails else []), *(["-B", base] if base else []), "--set",
+                                             found.id, "--", *packet_words, *words], (0, 1, 2), most)
         return parv_output.read_verdict(ended.out, ended.status, found)

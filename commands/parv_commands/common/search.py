@@ -7,12 +7,11 @@ import hashlib
 import os
 from typing import Callable, Dict, Generator, Iterator, List, NamedTuple, Sequence, Set, Tuple
 
-from . import changes, output
+from . import changes
 from .faults import Fault, faults_of
 from .packets import Member, RecoverySet, packets_for
 from .parv import LONGEST_LINE, MOST_FILES, Parv
 from .parv_output import NoAnswer, Sighting, read_sighting
-from .programs import Said, pieces_of, running, status_of
 from .slices import is_there
 
 WASTE = 1 << 24     # how many bytes may be searched in vain; each match of no target counts as LINE more
@@ -157,10 +156,9 @@ class Search:
 
     def _lines(self, words: List[str], most: int) -> Generator[Sighting, None, None]:
         """Yields what parv writes, as it comes. Whenever all of it was taken, `idle` is called: more may come late."""
-        program, links, standard_error, rest = self.parv.program, self.parv.links, Said(self.parv.program), b""
-        arguments = [b"find", *(word.encode() for word in words)]
-        with output.doing("parv find", most), running(program, arguments, links.folder.place, links.kept) as process:
-            for piece in pieces_of(process, standard_error):
+        rest = b""
+        with self.parv.pieces("find", words, most) as pieces:
+            for piece in pieces:
                 *lines, rest = (rest + piece).split(b"\n")
                 for line in lines:
                     if line == b"end":
@@ -169,8 +167,7 @@ class Search:
                 if len(rest) > LONGEST_LINE:
                     raise NoAnswer("find")
                 self.idle()
-            status = status_of(process)
-        raise self.parv.fault_of(status, bytes(standard_error), "find") if status else NoAnswer("find")
+        raise NoAnswer("find")
 
     def _matches(self, words: List[str], most: int) -> Iterator[Place]:
         """Yields the matches that parv finds.

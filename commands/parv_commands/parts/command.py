@@ -210,10 +210,15 @@ def find(program: Program, options: Options, cursor: Sequence[bytes]) -> Iterato
     """Yields the output of parv for a part, in pieces of whole lines."""
     tails = [b"--tails"] if options.tails else []
     words = [b"find", *tails, b"--limit", options.limit, *cursor, b"--", *options.files]
-    standard_error, rest = programs.Said(program), b""
-    remaining = int(options.limit)      # how many matches may still come
-    with output.doing("parv find", most_read(options.files, 1)), programs.running(program, words) as process:
-        for piece in programs.pieces_of(process, standard_error):
+    rest, remaining = b"", int(options.limit)       # how many matches may still come
+
+    def fault(status: int, standard_error: bytes) -> Fault:
+        if status == USAGE and standard_error == parv_output.CURSOR_OF_OTHERS:
+            return Fault(USAGE, "a searched file has another length than when this search began")
+        return fault_of(program, status, standard_error, "find", {})
+    with output.doing("parv find", most_read(options.files, 1)), \
+            contextlib.closing(programs.pieces_of(programs.Call(program, words), fault)) as pieces:
+        for piece in pieces:
             *lines, rest = (rest + piece).split(b"\n")
             for line in lines:
                 if line == b"end" and remaining >= 0 or remaining == 0 and _is_next(line, cursor):
@@ -225,11 +230,6 @@ def find(program: Program, options: Options, cursor: Sequence[bytes]) -> Iterato
             if len(rest) > LONGEST_LINE:
                 raise parv_output.NoAnswer("find")
             yield b"".join(line + b"\n" for line in lines)
-        status = programs.status_of(process)
-    if status == USAGE and bytes(standard_error) == parv_output.CURSOR_OF_OTHERS:
-        raise Fault(USAGE, "a searched file has another length than when this search began")
-    if status != 0:
-        raise fault_of(program, status, bytes(standard_error), "find", {})
     if rest:
         raise parv_output.NoAnswer("find")
 

@@ -7,7 +7,7 @@ import argparse
 import os
 import signal
 import sys
-from typing import List, NoReturn
+from typing import Callable, List, NoReturn
 
 from ..common import arguments, output, programs, signals
 from ..common.faults import FILES, NoProgram
@@ -64,13 +64,16 @@ def _show(program: Program, given: List[bytes]) -> int:
     is_terminal = _is_terminal(1)
     options = given[:given.index(b"--")] if b"--" in given else given
     times = 1 if given[0] == b"find" else 3 if b"--tails" in options else 2
-    with output.doing("parv", most_read(given[1:], times), True), \
-            programs.running(program, given, own=(0,) if is_terminal else (0, 1)) as process:
-        for number, piece in programs.outputs_of(process):
-            output.stop_progress()     # (From now on, removing the line would remove output.)
+
+    def passes(number: int) -> Callable[[bytes], None]:
+        def takes(piece: bytes) -> None:
+            output.stop_progress()      # (From now on, removing the line would remove output.)
             with signals.interruptible():
                 output.pass_on(piece, number)
-        status = programs.status_of(process)
+        return takes
+    call = programs.Call(program, given, own=(0,) if is_terminal else (0, 1))
+    with output.doing("parv", most_read(given[1:], times), True):
+        status = programs.finished(programs.answer_of(call, passes(1), passes(2))).status
     return status if status >= 0 else 128 - status
 
 

@@ -15,7 +15,7 @@ from ..common.folders import Folder
 from ..common.names import shown
 from ..common.packets import PacketFiles, RecoverySet, recovery_lines, write_for_par2
 from ..common.parv_output import PacketLine
-from ..common.programs import Program, answer_of, find_program, finished
+from ..common.programs import Call, Program, answer_of, find_program, finished
 from ..common.search import ScannedFile
 from ..common.set_state import is_same
 from ..common.signals import wait_point
@@ -80,7 +80,7 @@ class Bench:
         """Lets par2 repair the linked files, with files under these further names."""
         program = needed_par2()
         with output.doing("par2 repair"):
-            ended = finished(answer_of(program, [b"repair", b"-q", PACKETS, *extra], self.place.place))
+            ended = finished(answer_of(Call(program, [b"repair", b"-q", PACKETS, *extra], self.place.place)))
         lines = [line for line in (ended.out + b"\n" + ended.said).replace(b"\r", b"\n").split(b"\n") if line.strip()]
         last = shown(lines[-1].strip()) if lines else ""
         if ended.status < 0:

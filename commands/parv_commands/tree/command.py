@@ -5,9 +5,11 @@ from __future__ import annotations
 import argparse
 import collections
 import contextlib
+import functools
 import os
 import re
-from typing import BinaryIO, Deque, Dict, Generator, Iterable, Iterator, List, NamedTuple, Optional, Set, Tuple
+from typing import (Any, BinaryIO, Callable, Coroutine, Deque, Dict, Iterable, Iterator, List, NamedTuple, Optional,
+                    Set, Tuple)
 
 from ..common import arguments, output, programs, signals
 from ..common.faults import FILES, NO_SET, USAGE, Fault, faults_of
@@ -15,8 +17,7 @@ from ..common.folders import Descent, Folder
 from ..common.names import is_packet_file, shown
 from ..common.packets import PacketFiles
 from ..common.parv import SPARE_FILES, Links, Parv, folder_within, temporary_folder
-from ..common.pool import Call, Job, Pool
-from ..common.programs import Answer, Program
+from ..common.programs import Program
 from .lines import GONE, Line, Loss, json_of, json_text, json_with, known, losses
 from .looking import Looking
 from .sets import NO_MAIN, Listed, called
@@ -26,6 +27,7 @@ LOST = 5                # the exit status if something was lost since the last t
 AT_ONCE = 256           # the most packet files that one run of parv lists
 FILES_OF_A_RUN = 8      # how many files are open here for each run of parv
 LEFT_OUT = (b".verify_and_repair", b".parv-repair")
+Job = Callable[[], Coroutine[Any, Any, None]]
 
 DESCRIPTION = """\
 Verifies every PAR2 set below FOLDER and prints a line for each. It writes
@@ -126,9 +128,10 @@ class Tree:
     def __init__(self, asked: Asked, program: Program, top: Folder, temporary: Folder, state: Optional[State]) -> None:
         self.asked, self.program, self.top, self.temporary, self.state = asked, program, top, temporary, state
         self.most_open = programs.raise_file_limit()
-        self.pool = Pool(program, max(1, min(asked.sides, (self.most_open - SPARE_FILES) // FILES_OF_A_RUN)))
+        self.sides = max(1, min(asked.sides, (self.most_open - SPARE_FILES) // FILES_OF_A_RUN))
         self.at_once = max(1, min(AT_ONCE, self.most_open - SPARE_FILES))
         self.places: Deque[Place] = collections.deque()
+        self.waiting: Deque[Job] = collections.deque()
         self.next = 0                               # the line of the first place that is printed next
         self.status = 0
         self.count = 0
@@ -140,10 +143,9 @@ class Tree:
         """Checks and prints everything, and returns the exit status."""
         with output.doing("packet files are looked for"):
             self._find()
-        self.pool.waiting.extend(self._list(place) for place in self.places)
+        self.waiting.extend(functools.partial(self._list, place) for place in self.places)
         with output.doing("sets are verified"):
-            self.pool.run(self._tell)
-        self._tell()
+            programs.finished(self._verify())
         if not self.count and not self.status:
             output.say(f"{self.top.shown}: no packet file")
             self._rises_to(USAGE)
@@ -169,15 +171,27 @@ class Tree:
 
     # The jobs.
 
+    async def _verify(self) -> None:
+        """Runs the jobs in the order in which they wait, up to `sides` at once. Whenever some have ended, prints the
+        lines that are known."""
+        import asyncio
+        jobs: Set[asyncio.Future[None]] = set()
+        while jobs or self.waiting:
+            while self.waiting and len(jobs) < self.sides:
+                jobs.add(asyncio.ensure_future(self.waiting.popleft()()))
+            ended, jobs = await asyncio.wait(jobs, return_when=asyncio.FIRST_COMPLETED)
+            await asyncio.gather(*ended)    # (raises the error of a job)
+            self._tell()
+
     @contextlib.contextmanager
     def _looking(self, place: Place, said: List[str]) -> Iterator[Looking]:
         """Runs parv in a folder."""
         with faults_of("open", shown(place.path[:-1]) or self.top.shown):
             folder = self.top.inner(place.path[:-1] or b".")
         with contextlib.closing(folder), folder_within(self.temporary) as temporary:
-            yield Looking(Parv(self.program, Links(temporary, (folder.place,))), folder, said.append)
+            yield Looking(Parv(self.program, Links(temporary, (folder.place,)), False), folder, said.append)
 
-    def _list(self, place: Place) -> Job:
+    async def _list(self, place: Place) -> None:
         """Finds the sets of a folder, and puts them into the queue, to be verified before all others."""
         listed = Listed({}, [])
         sets: List[OneSet] = []
@@ -185,7 +199,7 @@ class Tree:
             with self._looking(place, []) as look:
                 words_of = {name: look.word_of(name, True) for name in place.packet_files}
                 for at in range(0, len(place.packet_files), self.at_once):
-                    yield from self._read(look, place, listed, place.packet_files[at:at + self.at_once], words_of)
+                    await self._read(look, place, listed, place.packet_files[at:at + self.at_once], words_of)
                 with contextlib.closing(_packet_files(look)) as files:
                     sets = self._sets(place, listed, files)
         except (Fault, OSError) as fault:
@@ -194,25 +208,22 @@ class Tree:
                 place.faults.setdefault(name, _fault_of(fault))
             sets = self._sets(place, listed, None)
         place.is_known = True
-        self.pool.waiting.extendleft(self._check(place, each) for each in reversed(sets))
+        self.waiting.extendleft(functools.partial(self._check, place, each) for each in reversed(sets))
 
-    def _read(self, look: Looking, place: Place, listed: Listed, packet_files: List[bytes],
-              words_of: Dict[bytes, str]) -> Generator[Call, Answer, None]:
+    async def _read(self, look: Looking, place: Place, listed: Listed, packet_files: List[bytes],
+                    words_of: Dict[bytes, str]) -> None:
         """Lists the packets of packet files: in one run or, if that fails, in one run for each."""
         given = [words_of[name] for name in packet_files]
         here = Listed(look.paths, packet_files)
         fault: Optional[Fault] = None
         try:
-            ended = yield look.call("packets", ["--", *given], here.take)
-            if ended.status == 0:
-                here.end()
-            else:
-                fault = look.parv.fault_of(ended.status, ended.said, "packets")
+            await look.parv.answer("packets", ["--", *given], takes=here.take)
+            here.end()
         except Fault as why:
             fault = why
         if fault is not None and len(packet_files) > 1:
             for name in packet_files:
-                yield from self._read(look, place, listed, [name], words_of)
+                await self._read(look, place, listed, [name], words_of)
             return
         listed.add(here)
         if fault is not None:
@@ -259,12 +270,12 @@ class Tree:
         number = place.add(Line(status, None, None, None, place.path, name, reason))
         place.said[number] = [reason]
 
-    def _check(self, place: Place, each: OneSet) -> Job:
+    async def _check(self, place: Place, each: OneSet) -> None:
         """Verifies a set."""
         said: List[str] = []
         try:
             with self._looking(place, said) as look:
-                checked = yield from look.check(each.id, each.packet_files, self.asked.tails, self.most_open)
+                checked = await look.check(each.id, each.packet_files, self.asked.tails, self.most_open)
             line = Line(checked.status, each.id, checked.need, checked.have, place.path, each.name)
         except (Fault, OSError) as fault:
             why = _fault_of(fault)

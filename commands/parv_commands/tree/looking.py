@@ -1,10 +1,10 @@
-"""Verifies a set in its folder, by jobs that ask for runs of parv. Decides with which files of the folder it is
-verified, and whether each file of the set is there under its own name."""
+"""Verifies a set in its folder. Decides with which files of the folder it is verified, and whether each file of the set
+is there under its own name."""
 
 from __future__ import annotations
 
 import os
-from typing import Callable, Dict, Generator, Iterator, List, NamedTuple, Optional, Sequence
+from typing import Callable, Dict, Iterator, List, NamedTuple, Optional, Sequence
 
 from ..common import changes, names, parv_output
 from ..common.faults import POSSIBLE, faults_of
@@ -13,8 +13,6 @@ from ..common.folders import Folder, Identity
 from ..common.names import shown
 from ..common.parv import MOST_FILES, SPARE_FILES, Parv, path_below
 from ..common.parv_output import SetAnswer, Verdict
-from ..common.pool import Call
-from ..common.programs import Answer
 from ..common.set_state import is_same
 from ..common.signals import wait_point
 
@@ -81,29 +79,14 @@ class Looking:
         self.paths[shown(word)] = path
         return word.decode()
 
-    def call(self, command: str, words: Sequence[str], takes: Optional[Callable[[bytes], None]] = None) -> Call:
-        links = self.parv.links
-        return Call([word.encode() for word in (command, *words)], links.folder.place, links.kept, takes)
-
-    def ask(self, command: str, words: Sequence[str], statuses: Sequence[int]) -> Generator[Call, Answer, Answer]:
-        """Runs parv and returns its answer. The run must end with one of these statuses or with an error."""
-        ended = yield self.call(command, words)
-        if ended.status not in statuses:
-            raise self.parv.fault_of(ended.status, ended.said, command)
-        return ended
-
-    def check(self, owner: str, packet_files: Sequence[bytes], tails: bool,
-              most_open: int) -> Generator[Call, Answer, Checked]:
+    async def check(self, owner: str, packet_files: Sequence[bytes], tails: bool, most_open: int) -> Checked:
         """Verifies the set with an ID, of which these packet files have packets."""
         packet_words = [self.word_of(name, True) for name in packet_files]
-        found = parv_output.read_set((yield from self.ask("set", ["--set", owner, "--", *packet_words], (0,))).out)
+        found = await self.parv.set(packet_words, owner)
         there = files_there(self.folder, {file.name for file in found.files},
                             folders_of(self.folder, found, self.say))
         paths = self._to_scan(found, there, min(MOST_FILES, most_open - SPARE_FILES) - len(packet_words))
-        words = [self.word_of(path) for path in paths]
-        ended = yield from self.ask(
-            "verify", [*(["--tails"] if tails else []), "--set", owner, "--", *packet_words, *words], (0, 1, 2))
-        verdict = parv_output.read_verdict(ended.out, ended.status, found)
+        verdict = await self.parv.verify(found, packet_words, [self.word_of(path) for path in paths], tails)
         sources = list(self._sources(verdict))
         status = 0 if is_complete(self.folder, found, sources, there) else max(verdict.status, POSSIBLE)
         return Checked(status, verdict.need, verdict.have)
