@@ -178,7 +178,9 @@ class Lines(TreeTest):
             write(self.path(b"a", b"0%03d" % number), b"%d" % number)
         ended = self.call(shell=f"ulimit -n 200; exec {TREE} room")
         self.assertEqual(ended, (0, self.line_one() + self.line_two(),
-                                 "parv-tree: a/set: 135 of 302 files aren't looked at: parv takes 167 here\n"))
+                                 "parv-tree: a/set: 135 of 302 files aren't looked at: parv takes 167 here\n"
+                                 "parv-tree: a/set: not looked at: 0265 (parv takes 167 files), 0266 (parv takes 167 "
+                                 "files), 0267 (parv takes 167 files) and 132 more\n"))
 
     def test_a_hundred_ways_to_thousands_of_names_are_looked_at_once(self) -> None:
         deep = b"/".join([b"d"] * 300)
@@ -209,7 +211,7 @@ class WithoutSets(TreeTest):
             self.assertEqual((ended.status, ended.out[0]), (status, str(status)), ended)
             watched = self.room.run(watch.main, ["room/a", "0", "1"])
             self.assertEqual((watched.status, watched.said), (status, ""), watched)
-            said = f"parv-tree: a/set: the name {name.decode()} is refused: it has too many folders\n"
+            said = f"parv-tree: a/set: the name {name.decode()} is refused: its name has too many folders\n"
             self.assertEqual(ended.said, said * status)
 
     def test_the_way_to_a_deep_folder_is_not_gone_from_its_beginning(self) -> None:
@@ -509,7 +511,8 @@ class Statuses(TreeTest):
                  "exec cat /dev/zero", f'"{PARV}" "$@" | head -n 1', f'"{PARV}" "$@" | head -c 40',
                  f'[ "$1" = packets ] || exec "{PARV}" "$@"; echo "packets 3"',
                  f'[ "$1" = verify ] || exec "{PARV}" "$@"; exit 1',
-                 f'[ "$1" = verify ] || exec "{PARV}" "$@"; "{PARV}" "$@" | sed "s/ from .*/ from elsewhere/"; exit 1']
+                 f'[ "$1" = verify ] || exec "{PARV}" "$@"; "{PARV}" "$@" | sed "s/^complete/renamed/; s/ from .*//; '
+                 's/^renamed.*/& from elsewhere/"; exit 1']
         programs = ["/bin/true", "/bin/false", "/bin/echo", *(
             self.program(f"odd{number}", text) for number, text in enumerate(texts))]
         for program in programs:

@@ -146,34 +146,33 @@ refused() {
     "$one_set" tree/set/set.par2 4 0 whole bad.txt "$1"
     id=$("$parv" packets tree/set/set.par2 | awk '$4 == "main" { print $5 }')
     wants "the name ${1@Q}" 2 "2 $id need 2 have 0 set/set" \
-        "parv-tree: set/set: the name $2 is refused: it is no plain path below the folder" "$script" tree
+        "parv-tree: set/set: the name $2 is refused: its name $3" "$script" tree
 }
-refused ../outside ../outside
-refused ../../outside ../../outside
-refused "$work/outside" "$work/outside"
-refused sub/../../../outside sub/../../../outside
-refused ./good.txt ./good.txt
-refused sub//bad.txt sub//bad.txt
-refused .. ..
-refused $'../\xff\n' '../\xff\x0a'
+refused ../outside ../outside "leads out of the folder"
+refused ../../outside ../../outside "leads out of the folder"
+refused "$work/outside" "$work/outside" "is absolute"
+refused sub/../../../outside sub/../../../outside "leads out of the folder"
+refused ./good.txt ./good.txt "isn't that of a file"
+refused sub//bad.txt sub//bad.txt "isn't that of a file"
+refused .. .. "leads out of the folder"
+refused $'../\xff\n' '../\xff\x0a' "leads out of the folder"
 "$one_set" tree/set/set.par2 4 0 whole bad.txt sub/bad.txt
 id=$("$parv" packets tree/set/set.par2 | awk '$4 == "main" { print $5 }')
 linked() {
-    wants "$1" 2 "2 $id need 2 have 0 set/set" \
-        "parv-tree: set/set: sub/bad.txt is a link, or behind one, and isn't read" "$script" tree
+    wants "$1" 6 "6 $id need 2 have 0 set/set" "parv-tree: set/set: not looked at: $2 (a link)" "$script" tree
 }
 ln -s "$work/outer/bad.txt" tree/set/sub/bad.txt
-linked "a link at a name"
+linked "a link at a name" sub/bad.txt
 rm -r tree/set/sub
 ln -s "$work/outer" tree/set/sub
-linked "a link on the way to a name"
+linked "a link on the way to a name" sub
 mkdir other
 cp tree/set/set.par2 other
 ln -s "$work/other" tree/other
 ln -s "$work/other/set.par2" tree/set/linked.par2
 mkdir tree/set/folder.par2
 mkfifo tree/set/fifo.par2
-linked "packet files that are links, folders or FIFOs"
+linked "packet files that are links, folders or FIFOs" sub
 rm -r tree/set/sub
 mkdir tree/set/sub
 mkfifo tree/set/sub/bad.txt
@@ -215,10 +214,10 @@ cp v.par2 tree/a/w.vol0+1.par2
 cp tree/a/* tree/b
 cp tree/a/* tree/c
 chmod 000 tree/a/g.bin tree/b/v.par2 tree/c
-wants "what may not be read" 6 "6 $v need - have - a/v
+wants "what may not be read" 6 "6 $v need 2 have 0 a/v
 0 $v need 0 have 0 b/w
 6 - need - have - b/v" "parv-tree: tree: cannot read c: Permission denied
-parv-tree: a/v: cannot open g.bin
+parv-tree: a/v: not looked at: g.bin (Permission denied)
 parv-tree: b/v: cannot open v.par2" env PARV="$work/parv" "${user[@]}" commands/bin/parv-tree tree
 chmod 700 tree/c
 exit $failed

@@ -8,20 +8,18 @@ import contextlib
 import functools
 import os
 import re
-from typing import (Any, BinaryIO, Callable, Coroutine, Deque, Dict, Iterable, Iterator, List, NamedTuple, Optional,
+from typing import (Any, Callable, Coroutine, Deque, Dict, Iterable, Iterator, List, NamedTuple, Optional,
                     Set, Tuple)
 
 from ..common import arguments, output, programs, signals
 from ..common.faults import FILES, NO_SET, USAGE, Fault, faults_of
 from ..common.folders import Descent, Folder
 from ..common.names import is_packet_file, shown
-from ..common.packets import PacketFiles
+from ..common.packets import NO_MAIN, PacketFiles, PacketsOfFiles, set_name_of
 from ..common.parv import SPARE_FILES, Links, Parv, folder_within, temporary_folder
 from ..common.programs import Program
-from .lines import GONE, Line, Loss, json_of, json_text, json_with, known, losses
-from .looking import Looking
-from .sets import NO_MAIN, Listed, called
-from .state import Key, State, key_of
+from ..common.set_state import FolderWords, Verification, text_of
+from .state import GONE, Key, Line, Loss, State, json_of, json_text, json_with, key_of, losses, to_remember
 
 LOST = 5                # the exit status if something was lost since the last time
 AT_ONCE = 256           # the most packet files that one run of parv lists
@@ -66,7 +64,7 @@ PARV names the program if it isn't in PATH. See man parv-tree.
 """
 
 
-class Asked(NamedTuple):
+class Options(NamedTuple):
     """The folder and options of the command line."""
     folder: bytes
     sides: int
@@ -84,9 +82,9 @@ class Place:
         self.path = path
         self.packet_files: List[bytes] = []
         self.lines: List[Optional[Line]] = []
-        self.said: Dict[int, List[str]] = {}
+        self.messages: Dict[int, List[str]] = {}
         self.faults: Dict[bytes, Fault] = {}
-        self.is_known = False
+        self.has_lines = False
 
     def add(self, line: Optional[Line] = None) -> int:
         self.lines.append(line)
@@ -101,7 +99,7 @@ class OneSet(NamedTuple):
     packet_files: List[bytes]
 
 
-def _walk(top: Folder, say_unread: List[Tuple[bytes, str]]) -> Iterator[bytes]:
+def _walk(top: Folder, unread_folders: List[Tuple[bytes, str]]) -> Iterator[bytes]:
     """Yields the paths of all packet files below a folder. A folder that can't be read is recorded, with the reason."""
     waiting: List[bytes] = [b""]
     with contextlib.closing(Descent(top)) as descent:
@@ -119,16 +117,16 @@ def _walk(top: Folder, say_unread: List[Tuple[bytes, str]]) -> Iterator[bytes]:
                         elif is_packet_file(name) and entry.is_file(follow_symlinks=False):
                             yield path + name
             except OSError as fault:
-                say_unread.append((path, fault.strerror or str(fault)))
+                unread_folders.append((path, fault.strerror or str(fault)))
 
 
 class Tree:
     """A run over a tree."""
 
-    def __init__(self, asked: Asked, program: Program, top: Folder, temporary: Folder, state: Optional[State]) -> None:
-        self.asked, self.program, self.top, self.temporary, self.state = asked, program, top, temporary, state
+    def __init__(self, options: Options, program: Program, top: Folder, temporary: Folder, state: Optional[State]) -> None:
+        self.options, self.program, self.top, self.temporary, self.state = options, program, top, temporary, state
         self.most_open = programs.raise_file_limit()
-        self.sides = max(1, min(asked.sides, (self.most_open - SPARE_FILES) // FILES_OF_A_RUN))
+        self.sides = max(1, min(options.sides, (self.most_open - SPARE_FILES) // FILES_OF_A_RUN))
         self.at_once = max(1, min(AT_ONCE, self.most_open - SPARE_FILES))
         self.places: Deque[Place] = collections.deque()
         self.waiting: Deque[Job] = collections.deque()
@@ -181,84 +179,84 @@ class Tree:
                 jobs.add(asyncio.ensure_future(self.waiting.popleft()()))
             ended, jobs = await asyncio.wait(jobs, return_when=asyncio.FIRST_COMPLETED)
             await asyncio.gather(*ended)    # (raises the error of a job)
-            self._tell()
+            self._print()
 
     @contextlib.contextmanager
-    def _looking(self, place: Place, said: List[str]) -> Iterator[Looking]:
-        """Runs parv in a folder."""
+    def _words(self, place: Place) -> Iterator[FolderWords]:
+        """Opens a folder, and gives the words by which parv gets its files."""
         with faults_of("open", shown(place.path[:-1]) or self.top.shown):
             folder = self.top.inner(place.path[:-1] or b".")
         with contextlib.closing(folder), folder_within(self.temporary) as temporary:
-            yield Looking(Parv(self.program, Links(temporary, (folder.place,)), False), folder, said.append)
+            yield FolderWords(folder, Parv(self.program, Links(temporary, (folder.place,)), False))
 
     async def _list(self, place: Place) -> None:
         """Finds the sets of a folder, and puts them into the queue, to be verified before all others."""
-        listed = Listed({}, [])
+        packets = PacketsOfFiles({}, [])
         sets: List[OneSet] = []
         try:
-            with self._looking(place, []) as look:
-                words_of = {name: look.word_of(name, True) for name in place.packet_files}
+            with self._words(place) as words:
+                for name in place.packet_files:
+                    words.word_of(name, True)
                 for at in range(0, len(place.packet_files), self.at_once):
-                    await self._read(look, place, listed, place.packet_files[at:at + self.at_once], words_of)
-                with contextlib.closing(_packet_files(look)) as files:
-                    sets = self._sets(place, listed, files)
+                    await self._read(words, place, packets, place.packet_files[at:at + self.at_once])
+                with contextlib.closing(PacketFiles(words.parv, list(words.paths), words.opener)) as files:
+                    sets = self._sets(place, packets, files)
         except (Fault, OSError) as fault:
-            place.lines, place.said = [], {}
+            place.lines, place.messages = [], {}
             for name in place.packet_files:
                 place.faults.setdefault(name, _fault_of(fault))
-            sets = self._sets(place, listed, None)
-        place.is_known = True
-        self.waiting.extendleft(functools.partial(self._check, place, each) for each in reversed(sets))
+            sets = self._sets(place, packets, None)
+        place.has_lines = True
+        self.waiting.extendleft(functools.partial(self._verify_set, place, each) for each in reversed(sets))
 
-    async def _read(self, look: Looking, place: Place, listed: Listed, packet_files: List[bytes],
-                    words_of: Dict[bytes, str]) -> None:
+    async def _read(self, words: FolderWords, place: Place, packets: PacketsOfFiles, packet_files: List[bytes]) -> None:
         """Lists the packets of packet files: in one run or, if that fails, in one run for each."""
-        given = [words_of[name] for name in packet_files]
-        here = Listed(look.paths, packet_files)
+        here = PacketsOfFiles(words.paths, packet_files)
         fault: Optional[Fault] = None
         try:
-            await look.parv.answer("packets", ["--", *given], takes=here.take)
+            await words.parv.answer("packets", ["--", *(words.word_of(name, True) for name in packet_files)],
+                                    takes=here.take)
             here.end()
         except Fault as why:
             fault = why
         if fault is not None and len(packet_files) > 1:
             for name in packet_files:
-                await self._read(look, place, listed, [name], words_of)
+                await self._read(words, place, packets, [name])
             return
-        listed.add(here)
+        packets.add(here)
         if fault is not None:
             place.faults[packet_files[0]] = fault
 
-    def _sets(self, place: Place, listed: Listed, files: Optional[PacketFiles]) -> List[OneSet]:
+    def _sets(self, place: Place, packets: PacketsOfFiles, files: Optional[PacketFiles]) -> List[OneSet]:
         """Returns the sets of a folder that are to be verified. The lines of the others are known then."""
-        ids = {name: listed.ids.get(name, {}) for name in place.packet_files}
+        ids = {name: packets.ids.get(name, {}) for name in place.packet_files}
         found: Dict[str, List[bytes]] = {}
         lost: Dict[bytes, List[bytes]] = {}
         for name in place.packet_files:
             for owner in ids[name]:
                 found.setdefault(owner, []).append(name)
             if not ids[name]:
-                lost.setdefault(called(name), []).append(name)
+                lost.setdefault(set_name_of(name), []).append(name)
         sets: List[OneSet] = []
         for owner, packet_files in found.items():
-            name = called(packet_files[0])
+            name = set_name_of(packet_files[0])
             each = OneSet(place.add(), owner, name, packet_files + lost.get(name, []))
-            if files is None or not self._is_none(place, each, listed, files):
+            if files is None or not self._is_none(place, each, packets, files):
                 sets.append(each)
-        named = {called(name) for name in place.packet_files if ids[name]}
+        named = {set_name_of(name) for name in place.packet_files if ids[name]}
         for name, packet_files in lost.items():
             if name not in named:
                 self._lose(place, name, packet_files[0])
         return sets
 
-    def _is_none(self, place: Place, each: OneSet, listed: Listed, files: PacketFiles) -> bool:
+    def _is_none(self, place: Place, each: OneSet, packets: PacketsOfFiles, files: PacketFiles) -> bool:
         """Returns whether it is known without parv that the packets of an ID are no set. Then the line is known too.
         This isn't said if one of its packet files could not be read."""
         if any(name in place.faults for name in each.packet_files):
             return False
-        why = listed.why_none(each.id, files)
+        why = packets.why_none(each.id, files)
         if why is not None:
-            self._know(place, each, Line(NO_SET, each.id, None, None, place.path, each.name, why), [])
+            self._put(place, each, Line(NO_SET, each.id, None, None, place.path, each.name, why), [])
         return why is not None
 
     def _lose(self, place: Place, name: bytes, first: bytes) -> None:
@@ -268,37 +266,44 @@ class Tree:
         if fault is not None:
             self.unsure.add(place.path)
         number = place.add(Line(status, None, None, None, place.path, name, reason))
-        place.said[number] = [reason]
+        place.messages[number] = [reason]
 
-    async def _check(self, place: Place, each: OneSet) -> None:
-        """Verifies a set."""
-        said: List[str] = []
+    async def _verify_set(self, place: Place, each: OneSet) -> None:
+        messages: List[str] = []
         try:
-            with self._looking(place, said) as look:
-                checked = await look.check(each.id, each.packet_files, self.asked.tails, self.most_open)
-            line = Line(checked.status, each.id, checked.need, checked.have, place.path, each.name)
+            with self._words(place) as words:
+                packet_words = [words.word_of(name, True) for name in each.packet_files]
+                the_set = await words.parv.set(packet_words, each.id)
+                verification = Verification(words, the_set, packet_words, self.most_open, messages.append)
+                state = await verification.state(self.options.tails, len(place.lines) > 1)
+                verification.find_links(state.sources)
+                messages += [f"the name {shown(name)} is refused: {why}"
+                             for name, why in verification.files.refused.items()]
+                if state.unread:
+                    messages.append(f"not looked at: {text_of(state.unread)}")
+            line = Line(state.status, each.id, state.verdict.need, state.verdict.have, place.path, each.name)
         except (Fault, OSError) as fault:
             why = _fault_of(fault)
             line = Line(why.status, each.id, None, None, place.path, each.name, str(why))
-        self._know(place, each, line, said)
+        self._put(place, each, line, messages)
 
-    def _know(self, place: Place, each: OneSet, line: Line, said: List[str]) -> None:
+    def _put(self, place: Place, each: OneSet, line: Line, messages: List[str]) -> None:
         place.lines[each.number] = line
-        place.said[each.number] = said if line.reason is None else [*said, line.reason]
+        place.messages[each.number] = messages if line.reason is None else [*messages, line.reason]
 
     # Printing.
 
-    def _tell(self) -> None:
+    def _print(self) -> None:
         """Prints the lines that are known, as far as all lines before them are."""
-        while self.places and self.places[0].is_known:
+        while self.places and self.places[0].has_lines:
             place = self.places[0]
             while self.next < len(place.lines):
                 line = place.lines[self.next]
                 if line is None:
                     return
-                for text in place.said.pop(self.next, []):
-                    output.say(f"{line.called}: {text}")
-                self._tell_line(line)
+                for text in place.messages.pop(self.next, []):
+                    output.say(f"{line.set_name}: {text}")
+                self._print_set(line)
                 self.next += 1
             for name, fault in sorted(place.faults.items()):
                 output.say(f"{shown(place.path + name)}: {fault}")
@@ -307,16 +312,16 @@ class Tree:
             self.places.popleft()
             self.next = 0
 
-    def _tell_line(self, line: Line) -> None:
+    def _print_set(self, line: Line) -> None:
         """Prints the line of a set, and what the set has lost."""
         self.count += 1
         self._rises_to(line.status)
         before = None if self.state is None else self.state.sets.get(key_of(line))
         found = [] if before is None else losses(line, before)
         if line.id is not None:
-            self.sets[key_of(line)] = known(line, before)
-        shows = bool(line.status or not self.asked.quiet)
-        if self.asked.json:
+            self.sets[key_of(line)] = to_remember(line, before)
+        shows = bool(line.status or not self.options.quiet)
+        if self.options.json:
             fields = json_of(line)
             if self.state is not None:
                 fields = json_with(fields, found, before)
@@ -343,7 +348,7 @@ class Tree:
                 self.sets[key] = before
                 continue
             loss = Loss(GONE, before, before)
-            self._write([json_text(json_with(json_of(before, True), [loss], before)) if self.asked.json else loss.text])
+            self._write([json_text(json_with(json_of(before, True), [loss], before)) if self.options.json else loss.text])
             self._rises_to(LOST)
         if not self.count:
             return
@@ -356,13 +361,6 @@ class Tree:
             self._rises_to(fault.status)
 
 
-def _packet_files(look: Looking) -> PacketFiles:
-    """Returns the packet files of a folder, to be read again."""
-    def opener(word: str) -> BinaryIO:
-        return open(look.folder.open_to_read(look.paths[word]), "rb")
-    return PacketFiles(look.parv, list(look.paths), opener)
-
-
 def _fault_of(fault: Exception) -> Fault:
     """Returns the error of one set, after which the command goes on."""
     if isinstance(fault, Fault):
@@ -372,16 +370,16 @@ def _fault_of(fault: Exception) -> Fault:
     return Fault(FILES, f"{name}{fault.strerror or fault}")
 
 
-def tree(asked: Asked) -> int:
+def tree(options: Options) -> int:
     """Runs the command, and returns its exit status."""
     program = arguments.needed_parv()
     with contextlib.ExitStack() as used:
-        top = used.enter_context(contextlib.closing(Folder.opened(asked.folder)))
+        top = used.enter_context(contextlib.closing(Folder.opened(options.folder)))
         state: Optional[State] = None
-        if asked.state is not None:
-            state = used.enter_context(contextlib.closing(State(asked.state, asked.folder)))
+        if options.state is not None:
+            state = used.enter_context(contextlib.closing(State(options.state, options.folder)))
         temporary = used.enter_context(temporary_folder())
-        status = Tree(asked, program, top, temporary, state).run()
+        status = Tree(options, program, top, temporary, state).run()
     return status
 
 
@@ -412,6 +410,6 @@ def main() -> int:
             reader.error("missing argument: FOLDER")
         if options.state == "":
             reader.error("--state has no FILE")
-        return tree(Asked(os.fsencode(options.folder), options.sides, options.quiet, options.tails, options.json,
+        return tree(Options(os.fsencode(options.folder), options.sides, options.quiet, options.tails, options.json,
                           None if options.state is None else os.fsencode(options.state)))
     return arguments.ended("parv-tree", run)
