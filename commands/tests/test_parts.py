@@ -12,7 +12,7 @@ import unittest
 import unittest.mock
 from typing import List
 
-from parv_commands.common import changes, names, output, parv_output, programs
+from parv_commands.common import changes, names, output, parv, programs
 from parv_commands.common.faults import Fault
 from parv_commands.common.folders import Folder
 from parv_commands.map import command as map_command
@@ -79,23 +79,23 @@ class Folders(unittest.TestCase):
 
 class Answers(unittest.TestCase):
     def test_a_set_is_read(self) -> None:
-        found = parv_output.read_set(SET)
+        found = parv.read_set(SET)
         self.assertEqual((found.size, found.have, found.aside), (4, 2, {("a b.par2", 64)}))
         self.assertEqual([file.name for file in found.files], [b"a b", b"from \n\\"])
 
     def test_a_verdict_is_read_whatever_the_names(self) -> None:
-        found = parv_output.read_set(SET)
+        found = parv.read_set(SET)
         text = SET.split(b"\n")[0] + (b"\nrenamed a b from from x\nmissing from \\x0a\\\\ 0/1\nneed 1 have 2\n"
                                       b"result possible\n")
-        verdict = parv_output.read_verdict(text, 1, found)
+        verdict = parv.read_verdict(text, 1, found)
         self.assertEqual([state.word for state in verdict.states], ["from x", None])
         self.assertEqual(verdict.counts, "need 1 have 2")
 
     def test_what_is_no_answer_is_refused(self) -> None:
-        found = parv_output.read_set(SET)
+        found = parv.read_set(SET)
         for text in (b"", b"\n", SET[:-1], SET[:60], SET.replace(b"size", b"Size"), SET.replace(b"have 2\n", b""),
                      SET.replace(b" 8 2 ", b" 8 1 "), SET + b"more\n", b"\xff\n" + SET):
-            self.assertRaises(Fault, parv_output.read_set, text)
+            self.assertRaises(Fault, parv.read_set, text)
         line = SET.split(b"\n")[0]
         for status, text in ((0, b""), (1, line + b"\nresult possible\n"),
                              (0, line + b"\nneed 0 have 0\nresult complete\n"),
@@ -103,11 +103,11 @@ class Answers(unittest.TestCase):
                              (1, line + b"\ncomplete a b\ncomplete from \\x0a\\\\\nneed 0 have 2\nresult complete\n"),
                              (2, line + b"\nmissing a b 0/3\nmissing from \\x0a\\\\ 0/1\nneed 3 have 2\n"
                                  b"result impossible\n")):
-            self.assertRaises(Fault, parv_output.read_verdict, text, status, found)
+            self.assertRaises(Fault, parv.read_verdict, text, status, found)
         for text in b"packets 1\n", b"a 0 64 main 0\npackets 1\n", b"", b"packets\n":
-            self.assertRaises(Fault, parv_output.read_packets, text)
+            self.assertRaises(Fault, parv.read_packets, text)
         for text in b"", b"a 0 1", b"end", b"a b c d", b"a -1 00000000000000000000000000000001 0":
-            self.assertRaises(Fault, parv_output.read_sighting, text)
+            self.assertRaises(Fault, parv.read_sighting, text)
 
 
 def memory_is_refused() -> None:

@@ -14,8 +14,7 @@ from . import output, programs
 from .faults import FILES, USAGE, Fault, faults_of
 from .names import is_packet_file, shown
 from .packets import PacketFiles, RecoverySet, list_packets, read_recovery_set
-from .parv import MOST_FILES, SPARE_FILES, Parv
-from .parv_output import SetAnswer
+from .parv import MOST_FILES, SPARE_FILES, Parv, SetAnswer
 from .search import ScannedFile
 
 MOST_OTHERS = 3     # the most IDs of other sets in a message

@@ -11,8 +11,7 @@ from typing import (BinaryIO, Callable, Dict, Generator, Iterable, Iterator, Lis
 
 from . import changes
 from .faults import FILES, Fault, faults_of
-from .parv import Parv
-from .parv_output import NoAnswer, PacketLine, PacketLines, SetAnswer
+from .parv import NoAnswer, PacketLine, PacketLines, Parv, SetAnswer
 from .programs import too_much
 
 MAGIC = b"PAR2\0PKT"

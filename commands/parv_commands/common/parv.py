@@ -1,5 +1,8 @@
-"""Runs parv over files of any name. Each is a link with a short name in a temporary folder. So a command line has space
-for as many files as parv accepts, and parv misunderstands no name."""
+"""Runs parv over files of any name, and reads what it writes. Only this module does so.
+
+Each file is a link with a short name in a temporary folder. So a command line has space for as many files as parv accepts,
+and parv misunderstands no name. Each line that parv writes is accepted only in the form of its manual page.
+"""
 
 from __future__ import annotations
 
@@ -9,12 +12,13 @@ import re
 import shutil
 import stat
 import tempfile
-from typing import Callable, Container, Dict, Iterable, Iterator, List, Mapping, Optional, Sequence, Tuple
+from typing import (Callable, Container, Dict, FrozenSet, Iterable, Iterator, List, Mapping, Match, NamedTuple, Optional,
+                    Pattern, Sequence, Tuple)
 
-from . import changes, output, parv_output
+from . import changes, output
 from .faults import FILES, MEMORY, NO_SET, USAGE, Fault, NoProgram, faults_of
 from .folders import Folder
-from .names import is_packet_file, shown
+from .names import is_packet_file, shown, unshown
 from .programs import Answer, Call, Program, answer_of, pieces_of
 
 MOST_FILES = 65_535         # the most files in one command line
@@ -23,7 +27,204 @@ LONGEST_LINE = 1 << 17      # the most bytes in the line of a match
 _FAULTS = (USAGE, NO_SET, FILES, MEMORY)
 _PRINTABLE = re.compile("[ -~]*")
 _ABOUT = re.compile(rb"parv: (cannot open|read fault in) ([^\n]*)\n?")
+CURSOR_OF_OTHERS = b"parv: cursor of other files\n"      # a file has another length than when the cursor was made
+_LONGEST_LINE = 4096        # the most bytes in the line of a packet
+_ID = "[0-9a-f]{32}"
+_NUMBER = "[0-9]{1,18}"     # more digits than any length or offset has
+_SLICES = "[0-9]{1,5}"      # more digits than the number of slices of any set has
+_SET = re.compile(f"set ({_ID}) size ({_NUMBER}) slices ({_SLICES})")
+_FILE = re.compile(f"file ({_ID}) ({_NUMBER}) ({_SLICES}) (yes|no) (.*)")
+_ASIDE = re.compile(f"aside (.*) ({_NUMBER}) {_NUMBER}")
+_COUNTS = re.compile(f"need ({_SLICES}) have ({_NUMBER})")
+_FOUND_SLICES = re.compile(f"({_SLICES})/({_SLICES})")
+_PACKET = re.compile(f"(.*) ({_NUMBER}) ({_NUMBER}) (main|filedesc|ifsc|recvslic|creator|unknown) ({_ID})")
+_SIGHTING = re.compile(f"(.*) ({_NUMBER}) ({_ID}) ({_SLICES})")
 
+
+# What parv writes.
+
+class NoAnswer(NoProgram):
+    """The program that was run isn't parv, or its answer was cut."""
+
+    def __init__(self, command: str) -> None:
+        super().__init__(FILES, f"what parv {command} has written is no answer of it: is PARV another program?")
+
+
+class SetFile(NamedTuple):
+    """A file of a set, from its line. `has_sums` is whether its slices have checksums."""
+    id: str
+    length: int
+    slices: int
+    has_sums: bool
+    shown: str
+    name: bytes
+
+
+class SetAnswer(NamedTuple):
+    """A set: its first line, its files, the number of its recovery slices, and the packets that parv has rejected."""
+    line: str
+    id: str
+    size: int
+    files: List[SetFile]
+    have: int
+    aside: FrozenSet[Tuple[str, int]]
+
+
+class PacketLine(NamedTuple):
+    """The place of a packet (the word for its file, its offset and its length), its kind, and the ID of its set."""
+    word: str
+    offset: int
+    length: int
+    kind: str
+    set: str
+
+
+class State(NamedTuple):
+    """The state of a file of the set, the word for a scanned file with its whole content, and how many slices were
+    found."""
+    state: str
+    word: Optional[str]
+    found_slices: int
+
+
+class Verdict(NamedTuple):
+    """The answer of verify. `status` is the exit status of parv."""
+    status: int
+    states: List[State]
+    need: int
+    have: int
+
+    @property
+    def counts(self) -> str:
+        return f"need {self.need} have {self.have}"
+
+
+class Sighting(NamedTuple):
+    """A match: the word for a file, the offset in it, the ID of the slice's file, and the slice's number there."""
+    word: str
+    offset: int
+    id: str
+    number: int
+
+
+def lines_of(text: bytes, command: str) -> List[str]:
+    """Returns the lines of an answer, which must end with a line feed."""
+    try:
+        lines = text.decode("ascii").split("\n")
+    except UnicodeDecodeError as fault:
+        raise NoAnswer(command) from fault
+    if len(lines) < 2 or lines[-1]:
+        raise NoAnswer(command)
+    return lines[:-1]
+
+
+def read_set(text: bytes) -> SetAnswer:
+    lines = lines_of(text, "set")
+    head = _SET.fullmatch(lines[0])
+    files: List[SetFile] = []
+    have: Optional[int] = None
+    aside = set()
+    for line in lines[1:]:
+        word, _, rest = line.partition(" ")
+        file, packet = _FILE.fullmatch(line), _ASIDE.fullmatch(line)
+        if file:
+            files.append(SetFile(file[1], int(file[2]), int(file[3]), file[4] == "yes", file[5], unshown(file[5])))
+        elif packet:
+            aside.add((packet[1], int(packet[2])))
+        elif word == "have" and re.fullmatch(_NUMBER, rest):
+            have = int(rest)
+        elif word not in ("others", "creator"):
+            raise NoAnswer("set")
+    if head is None or have is None or sum(file.slices for file in files) != int(head[3]):
+        raise NoAnswer("set")
+    return SetAnswer(lines[0], head[1], int(head[2]), files, have, frozenset(aside))
+
+
+class PacketLines:
+    """Reads the answer of `parv packets` as it comes, in pieces, and counts the packets."""
+
+    def __init__(self) -> None:
+        self.count = 0
+        self._rest, self._is_whole = b"", False
+
+    def take(self, piece: bytes) -> Iterator[PacketLine]:
+        """Yields the packets whose lines end in the next piece."""
+        *lines, self._rest = (self._rest + piece).split(b"\n")
+        for line in lines:
+            if self._is_whole:
+                raise NoAnswer("packets")
+            if line == b"packets %d" % self.count:
+                self._is_whole = True
+            else:
+                self.count += 1
+                yield _packet(line)
+        if len(self._rest) > _LONGEST_LINE:
+            raise NoAnswer("packets")
+
+    def end(self) -> None:
+        """Checks that the answer is complete."""
+        if self._rest or not self._is_whole:
+            raise NoAnswer("packets")
+
+
+def _fields_of(line: bytes, form: Pattern[str], command: str) -> Match[str]:
+    """Returns the fields of a line, which must have this form."""
+    try:
+        fields = form.fullmatch(line.decode("ascii"))
+    except UnicodeDecodeError as fault:
+        raise NoAnswer(command) from fault
+    if fields is None:
+        raise NoAnswer(command)
+    return fields
+
+
+def _packet(line: bytes) -> PacketLine:
+    packet = _fields_of(line, _PACKET, "packets")
+    return PacketLine(packet[1], int(packet[2]), int(packet[3]), packet[4], packet[5])
+
+
+def read_packets(text: bytes) -> List[PacketLine]:
+    reader = PacketLines()
+    packets = list(reader.take(text))
+    reader.end()
+    return packets
+
+
+def read_sighting(line: bytes) -> Sighting:
+    sighting = _fields_of(line, _SIGHTING, "find")
+    return Sighting(sighting[1], int(sighting[2]), sighting[3], int(sighting[4]))
+
+
+def _state_of(line: str, file: SetFile) -> State:
+    state, _, rest = line.partition(" ")
+    if state == "complete" and rest == file.shown:
+        return State(state, file.shown, file.slices)
+    if state == "renamed" and rest.startswith(f"{file.shown} from "):
+        return State(state, rest[len(file.shown) + 6:], file.slices)
+    if state in ("damaged", "missing") and rest.startswith(file.shown + " "):
+        counts = _FOUND_SLICES.fullmatch(rest[len(file.shown) + 1:])
+        if counts and int(counts[2]) == file.slices:
+            return State(state, None, int(counts[1]))
+    raise NoAnswer("verify")
+
+
+_RESULTS: Dict[int, str] = {0: "result complete", 1: "result possible", 2: "result impossible"}
+
+
+def read_verdict(text: bytes, status: int, answer: SetAnswer) -> Verdict:
+    lines = lines_of(text, "verify")
+    if len(lines) < 3 or lines[-1] != _RESULTS.get(status):
+        raise NoAnswer("verify")
+    if lines[0] != answer.line or len(lines) != len(answer.files) + 3:
+        raise Fault(FILES, "the packet files have changed meanwhile")
+    counts = _COUNTS.fullmatch(lines[-2])
+    if counts is None:
+        raise NoAnswer("verify")
+    states = [_state_of(line, file) for line, file in zip(lines[1:], answer.files)]
+    return Verdict(status, states, int(counts[1]), int(counts[2]))
+
+
+# Runs of parv.
 
 class Links:
     """The temporary folder of links, and the names in messages of the files by their words. `kept` has opened folders
@@ -79,8 +280,8 @@ def fault_of(program: Program, status: int, said: bytes, command: str, names: Ma
     if status not in _FAULTS:
         return NoProgram(FILES, f"{program.shown} {command} has ended with status {status}, and isn't parv")
     if not line.startswith("parv: "):
-        return parv_output.NoAnswer(command)
-    if status == USAGE and said == parv_output.CURSOR_OF_OTHERS:   # the command itself has made the cursor
+        return NoAnswer(command)
+    if status == USAGE and said == CURSOR_OF_OTHERS:   # the command itself has made the cursor
         return Fault(FILES, "a file that is searched has another length now than before")
     about = _ABOUT.match(said)
     name = names.get(about[2].decode("ascii", "replace")) if about else None
@@ -134,20 +335,20 @@ class Parv:
             raise self.fault_of(ended.status, ended.said, command)
         return ended
 
-    async def set(self, packet_words: Sequence[str], chosen: Optional[str]) -> parv_output.SetAnswer:
+    async def set(self, packet_words: Sequence[str], chosen: Optional[str]) -> SetAnswer:
         ended = await self.answer("set", [*(["--set", chosen] if chosen else []), "--", *packet_words])
-        return parv_output.read_set(ended.out)
+        return read_set(ended.out)
 
-    async def packets(self, packet_words: Sequence[str], chosen: Optional[str] = None) -> List[parv_output.PacketLine]:
+    async def packets(self, packet_words: Sequence[str], chosen: Optional[str] = None) -> List[PacketLine]:
         ended = await self.answer("packets", [*(["--set", chosen] if chosen else []), "--", *packet_words])
-        found = parv_output.read_packets(ended.out)
+        found = read_packets(ended.out)
         if not all(packet.word in self.links.shown for packet in found):
-            raise parv_output.NoAnswer("packets")
+            raise NoAnswer("packets")
         return found
 
-    async def verify(self, found: parv_output.SetAnswer, packet_words: Sequence[str], words: Sequence[str],
-                     tails: bool = False, most: int = 0, base: str = "") -> parv_output.Verdict:
+    async def verify(self, found: SetAnswer, packet_words: Sequence[str], words: Sequence[str],
+                     tails: bool = False, most: int = 0, base: str = "") -> Verdict:
         """Returns the verdict over these files. Ends with an error of parv if there is none."""
         ended = await self.answer("verify", [*(["--tails"] if tails else []), *(["-B", base] if base else []), "--set",
                                              found.id, "--", *packet_words, *words], (0, 1, 2), most)
-        return parv_output.read_verdict(ended.out, ended.status, found)
+        return read_verdict(ended.out, ended.status, found)

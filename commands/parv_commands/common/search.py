@@ -10,8 +10,7 @@ from typing import Callable, Dict, Generator, Iterator, List, NamedTuple, Sequen
 from . import changes
 from .faults import Fault, faults_of
 from .packets import Member, RecoverySet, packets_for
-from .parv import LONGEST_LINE, MOST_FILES, Parv
-from .parv_output import NoAnswer, Sighting, read_sighting
+from .parv import LONGEST_LINE, MOST_FILES, NoAnswer, Parv, Sighting, read_sighting
 from .slices import is_there
 
 WASTE = 1 << 24     # how many bytes may be searched in vain; each match of no target counts as LINE more

@@ -19,13 +19,12 @@ import re
 import stat
 from typing import BinaryIO, Callable, Container, Dict, Iterable, List, NamedTuple, Optional, Sequence, Tuple
 
-from . import changes, names, output, parv_output
+from . import changes, names, output
 from .faults import FILES, IMPOSSIBLE, NO_SET, POSSIBLE, Fault, faults_of
 from .folders import Folder, Identity, identity_of
 from .names import RESERVED_NAMES, shown
 from .packets import MAGIC
-from .parv import MOST_FILES, SPARE_FILES, Parv, path_below
-from .parv_output import SetAnswer, SetFile, Verdict
+from .parv import MOST_FILES, SPARE_FILES, NoAnswer, Parv, SetAnswer, SetFile, Verdict, path_below
 from .signals import wait_point
 
 HERE = b"f"             # the link to the folder
@@ -226,7 +225,7 @@ class FolderWords:
         sources: Sources = []
         for state in verdict.states:
             if state.word is not None and state.word not in self._by_name:
-                raise parv_output.NoAnswer("verify")
+                raise NoAnswer("verify")
             sources.append(None if state.word is None else self._by_name[state.word])
         return verdict, sources
 

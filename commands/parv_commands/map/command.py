@@ -13,8 +13,7 @@ from ..common.command_files import CommandFiles, link_files, most_files_at_once,
 from ..common.faults import FILES, USAGE, Fault, faults_of
 from ..common.names import base_of, shown
 from ..common.packets import Member, RecoverySet
-from ..common.parv import Links, Parv, temporary_folder
-from ..common.parv_output import NoAnswer, SetAnswer
+from ..common.parv import Links, NoAnswer, Parv, SetAnswer, temporary_folder
 from ..common.programs import finished
 from ..common.search import ScannedFile, Search
 from ..common.set_state import has_same_bytes

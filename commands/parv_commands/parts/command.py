@@ -8,11 +8,11 @@ import os
 import re
 from typing import Iterator, List, NamedTuple, Optional, Sequence
 
-from ..common import arguments, changes, output, parv_output, programs
+from ..common import arguments, changes, output, programs
 from ..common.faults import FILES, USAGE, Fault, faults_of
 from ..common.folders import Folder
 from ..common.names import shown
-from ..common.parv import LONGEST_LINE, fault_of, most_read
+from ..common.parv import CURSOR_OF_OTHERS, LONGEST_LINE, NoAnswer, fault_of, most_read, read_sighting
 from ..common.programs import Program
 from ..common.signals import interruptible
 
@@ -156,7 +156,7 @@ class Parts:
             os.close(opened)
         part = self._read(NEW)
         if part is None:
-            raise parv_output.NoAnswer("find")
+            raise NoAnswer("find")
         number = len(self.parts) + 1
         with faults_of("write in", self.folder.shown):
             self._remove(b"%d" % (number + 1))
@@ -213,7 +213,7 @@ def find(program: Program, options: Options, cursor: Sequence[bytes]) -> Iterato
     rest, remaining = b"", int(options.limit)       # how many matches may still come
 
     def fault(status: int, standard_error: bytes) -> Fault:
-        if status == USAGE and standard_error == parv_output.CURSOR_OF_OTHERS:
+        if status == USAGE and standard_error == CURSOR_OF_OTHERS:
             return Fault(USAGE, "a searched file has another length than when this search began")
         return fault_of(program, status, standard_error, "find", {})
     with output.doing("parv find", most_read(options.files, 1)), \
@@ -223,15 +223,15 @@ def find(program: Program, options: Options, cursor: Sequence[bytes]) -> Iterato
             for line in lines:
                 if line == b"end" and remaining >= 0 or remaining == 0 and _is_next(line, cursor):
                     remaining = -1      # nothing may follow the last line
-                elif remaining > 0 and parv_output.read_sighting(line):
+                elif remaining > 0 and read_sighting(line):
                     remaining -= 1
                 else:
-                    raise parv_output.NoAnswer("find")
+                    raise NoAnswer("find")
             if len(rest) > LONGEST_LINE:
-                raise parv_output.NoAnswer("find")
+                raise NoAnswer("find")
             yield b"".join(line + b"\n" for line in lines)
     if rest:
-        raise parv_output.NoAnswer("find")
+        raise NoAnswer("find")
 
 
 def refuse_odd(files: Sequence[bytes]) -> None:

@@ -13,8 +13,8 @@ from ..common import changes, output
 from ..common.faults import FILES, NO_REPAIR, Fault, NoProgram, Refusal, faults_of
 from ..common.folders import Folder
 from ..common.names import shown
+from ..common.parv import PacketLine
 from ..common.packets import PacketFiles, RecoverySet, recovery_lines, write_for_par2
-from ..common.parv_output import PacketLine
 from ..common.programs import Call, Program, answer_of, find_program, finished
 from ..common.search import ScannedFile
 from ..common.set_state import is_same

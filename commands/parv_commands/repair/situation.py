@@ -12,8 +12,7 @@ from ..common.faults import FILES, IMPOSSIBLE, NO_REPAIR, NO_SET, USAGE, Fault, 
 from ..common.folders import Folder, Identity
 from ..common.names import RESERVED_NAMES, shown
 from ..common.packets import PacketFiles, RecoverySet, names_of_others, read_recovery_set
-from ..common.parv import Links, Parv
-from ..common.parv_output import PacketLine, SetAnswer
+from ..common.parv import Links, PacketLine, Parv, SetAnswer
 from ..common.programs import Program, finished
 from ..common.search import ScannedFile, Search
 from ..common.set_state import FolderWords, PacketFileNames, SetState, Sources, Verification, is_same, packet_files_of, text_of
