@@ -54,8 +54,7 @@ class States(unittest.TestCase):
             words, packet_files = FolderWords(folder, parv), packet_files_of(folder)
             packet_words = [words.word_of(name, True) for name in packet_files.names]
             the_set = finished(parv.set(packet_words, set_id))
-            verification = Verification(words, the_set, packet_words, most_open, self.messages.append,
-                                        packet_files.names)
+            verification = Verification(words, the_set, packet_words, most_open, self.messages.append)
             return finished(verification.state(tails, is_one_of_many))
 
     def sources(self) -> Dict[bytes, Optional[bytes]]:
@@ -150,7 +149,7 @@ class States(unittest.TestCase):
             self.assertEqual(packet_files_of(folder), ([b"damaged.PAR2", b"a8f3"], {b"link.par2": "a link"}))
         self.assertTrue(self.state().is_complete)
 
-    def test_a_packet_file_is_searched_if_it_may_be_a_file_of_the_set(self) -> None:
+    def test_a_packet_file_is_searched_if_it_may_have_slices(self) -> None:
         inner = set_of({b"x": b"inside"}, 8, 1)
         files = {b"inner.par2": inner, b"other": b"something else"}
         self.room.fresh()
@@ -158,7 +157,7 @@ class States(unittest.TestCase):
             self.room.take(name)
         self.room.put("set.par2", set_of(files, 8, 0))
         self.room.put("renamed", inner)
-        self.room.put("z", inner + b" and more")
+        self.room.put("other.par2", inner)
         self.room.put("other", files[b"other"])
         state = self.state(set_id=self.id_of(files))
         self.assertEqual((state.sources.count(None), state.status), (0, POSSIBLE))
@@ -166,6 +165,11 @@ class States(unittest.TestCase):
         self.assertEqual([sorted(each) for each in self.scanned()], [["f/other", "f/renamed"]])
         self.room.rename("renamed", "inner.par2")
         self.assertTrue(self.state(set_id=self.id_of(files)).is_complete)
+        self.room.take("inner.par2")
+        self.room.take("other")
+        self.room.put("joined", read(self.room.path("set.par2")) + inner + files[b"other"])
+        self.assertEqual(len(inner) % 8, 0)
+        self.assertEqual(self.state(set_id=self.id_of(files)).verdict.need, 0)
 
     def id_of(self, files: Dict[bytes, bytes]) -> str:
         return set_of(files, 8, 0)[32:48].hex()

@@ -6,8 +6,8 @@ import contextlib
 import hashlib
 import os
 import re
-from typing import (BinaryIO, Callable, Dict, Generator, Iterable, Iterator, List, Mapping, NamedTuple, Optional, Sequence,
-                    Set, Tuple)
+from typing import (BinaryIO, Callable, Dict, Generator, Iterable, Iterator, List, Mapping, NamedTuple, Optional,
+                    Sequence, Set, Tuple)
 
 from . import changes
 from .faults import FILES, Fault, faults_of

@@ -1,7 +1,7 @@
 """Runs parv over files of any name, and reads what it writes. Only this module does so.
 
-Each file is a link with a short name in a temporary folder. So a command line has space for as many files as parv accepts,
-and parv misunderstands no name. Each line that parv writes is accepted only in the form of its manual page.
+Each file is a link with a short name in a temporary folder. So a command line has space for as many files as parv
+accepts, and parv misunderstands no name. Each line that parv writes is accepted only in the form of its manual page.
 """
 
 from __future__ import annotations

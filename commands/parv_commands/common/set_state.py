@@ -127,11 +127,11 @@ class FilesOfSet(NamedTuple):
     refused: Dict[bytes, str]
 
 
-def files_of(folder: Folder, members: Sequence[SetFile], packet_files: Sequence[bytes] = ()) -> FilesOfSet:
-    """Returns the files of a folder, and of the subfolders that names of the set have. A packet file is among them only
-    if it has the name of a file of the set, or begins with a packet and has the length of one."""
-    own, lengths = {file.name for file in members}, {file.length for file in members}
-    packets = set(packet_files)
+def files_of(folder: Folder, members: Sequence[SetFile]) -> FilesOfSet:
+    """Returns the files of a folder, and of the subfolders that names of the set have. A file that is called as packet
+    files are is among them only if the set has its name. (Another one that begins with a packet is, since it may be
+    joined from several files.)"""
+    own = {file.name for file in members}
     refused: Dict[bytes, str] = {}
     for name in own:
         why = names.refusal(name, RESERVED_NAMES)
@@ -146,7 +146,7 @@ def files_of(folder: Folder, members: Sequence[SetFile], packet_files: Sequence[
         with contextlib.closing(inner):
             for name, now in inner.entries().items():
                 is_own = path + name in own
-                if not is_own and (names.is_packet_file(name) or path + name in packets and now.st_size not in lengths):
+                if not is_own and names.is_packet_file(name):
                     continue
                 why = why_unread(inner, name, now, is_own)
                 if why is not None:
@@ -293,13 +293,13 @@ def _most_bytes(there: Dict[bytes, Identity], paths: Sequence[bytes], tails: boo
 
 
 class Verification:
-    """Verifies a set with the files of a folder. parv gets these packet files by their words, of which `packet_files` are
-    in the folder, and may have `most_open` files open."""
+    """Verifies a set with the files of a folder. parv gets packet files by these words, and may have `most_open` files
+    open."""
 
     def __init__(self, words: FolderWords, the_set: SetAnswer, packet_words: Sequence[str], most_open: int,
-                 report: Report, packet_files: Sequence[bytes] = ()) -> None:
+                 report: Report) -> None:
         self.words, self.folder, self.the_set, self.report = words, words.folder, the_set, report
-        self.packet_words, self.packet_files = packet_words, packet_files
+        self.packet_words = packet_words
         self.room = max(min(MOST_FILES, most_open - SPARE_FILES) - len(packet_words), 0)
         self.files = FilesOfSet({}, {}, {})
         self._is_listed = False
@@ -309,7 +309,7 @@ class Verification:
     def gather(self) -> None:
         """Lists the files of the folder anew."""
         with output.waiting("the folder is read"):
-            files = files_of(self.folder, self.the_set.files, self.packet_files)
+            files = files_of(self.folder, self.the_set.files)
         self.files, self.scanned, self._left, self._is_listed = files, list(files.there), [], True
         if len(self.scanned) > self.room:
             self.report(f"{len(files.there) - self.room} of {len(files.there)} files aren't looked at: parv takes "

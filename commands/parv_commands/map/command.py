@@ -99,7 +99,8 @@ def _map_of_unknown(file: Member, source: Optional[ScannedFile], own: Sequence[S
     state = NOT_KNOWN
     if source is not None:
         with output.doing("equal files are compared"):
-            state = IN_PLACE if source in own or any(has_same_bytes(source.opener, each.opener) for each in own) else MOVED
+            is_own = source in own or any(has_same_bytes(source.opener, each.opener) for each in own)
+            state = IN_PLACE if is_own else MOVED
     return Map(file, [state] * file.slices, {})
 
 

@@ -181,8 +181,8 @@ def _removable(inspection: Inspection, backups: Sequence[Backup]) -> List[Backup
         if _has_slices(inspection, backup):
             removable.append(backup)
         else:
-            inspection.report(f"{shown(backup.kept)} has no slice of {inspection.the_set.files[backup.number].shown} that "
-                              "is found without --tails, and stays")
+            file = inspection.the_set.files[backup.number]
+            inspection.report(f"{shown(backup.kept)} has no slice of {file.shown} that is found without --tails, and stays")
     return removable
 
 

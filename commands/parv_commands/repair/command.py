@@ -88,8 +88,8 @@ def _report_earlier_backups(inspection: Inspection) -> None:
             and _NUMBERED.fullmatch(path) and path.rpartition(b".")[0] in members]
     if kept:
         more = f" and {len(kept) - 1} more like it" if len(kept) > 1 else ""
-        inspection.report(f"--remove-backups removes only what its own run has kept: {shown(kept[0])}{more} may be of an "
-                          "earlier one, and can be removed by rm")
+        inspection.report(f"--remove-backups removes only what its own run has kept: {shown(kept[0])}{more} may be of "
+                          "an earlier one, and can be removed by rm")
 
 
 def _trial(inspection: Inspection, situation: Situation) -> Tuple[int, List[str]]:

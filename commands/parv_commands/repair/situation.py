@@ -15,7 +15,8 @@ from ..common.packets import PacketFiles, RecoverySet, names_of_others, read_rec
 from ..common.parv import Links, PacketLine, Parv, SetAnswer
 from ..common.programs import Program, finished
 from ..common.search import ScannedFile, Search
-from ..common.set_state import FolderWords, PacketFileNames, SetState, Sources, Verification, is_same, packet_files_of, text_of
+from ..common.set_state import (FolderWords, PacketFileNames, SetState, Sources, Verification, is_same, packet_files_of,
+                                text_of)
 from ..common.signals import wait_point
 from . import work_folder
 from .work_folder import FILES_OF_PAR2, MADE, name_for, path_of
@@ -72,8 +73,7 @@ class Inspection:
         self.packets = PacketFiles(self.parv, packet_words, self.words.opener)
         with output.waiting("packets are read"):
             self.the_set: RecoverySet = read_recovery_set(self.answer, self.packets, self.lines)
-        self.verification = Verification(self.words, self.answer, packet_words, most_open, self.report,
-                                         self.packet_files.names)
+        self.verification = Verification(self.words, self.answer, packet_words, most_open, self.report)
 
     def report(self, text: str) -> None:
         output.say(f"{self.folder.shown}: {text}")

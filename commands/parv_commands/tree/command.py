@@ -123,7 +123,8 @@ def _walk(top: Folder, unread_folders: List[Tuple[bytes, str]]) -> Iterator[byte
 class Tree:
     """A run over a tree."""
 
-    def __init__(self, options: Options, program: Program, top: Folder, temporary: Folder, state: Optional[State]) -> None:
+    def __init__(self, options: Options, program: Program, top: Folder, temporary: Folder,
+                 state: Optional[State]) -> None:
         self.options, self.program, self.top, self.temporary, self.state = options, program, top, temporary, state
         self.most_open = programs.raise_file_limit()
         self.sides = max(1, min(options.sides, (self.most_open - SPARE_FILES) // FILES_OF_A_RUN))

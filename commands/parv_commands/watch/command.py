@@ -58,7 +58,7 @@ def state_of(folder: Folder, program: Program, tails: bool, most_open: int) -> S
             raise Fault(USAGE, "no packet file")
         packet_words = [words.word_of(name, True) for name in packet_files.names]
         the_set = finished(parv.set(packet_words, None))
-        verification = Verification(words, the_set, packet_words, most_open, output.say, packet_files.names)
+        verification = Verification(words, the_set, packet_words, most_open, output.say)
         state = finished(verification.state(tails))
         verification.find_links(state.sources)
         return state._replace(unread={**packet_files.unread, **state.unread})
