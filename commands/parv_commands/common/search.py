@@ -9,6 +9,7 @@ from typing import Callable, Dict, Generator, Iterator, List, NamedTuple, Sequen
 
 from . import changes
 from .faults import Fault, faults_of
+from .names import shown
 from .packets import Member, RecoverySet, packets_for
 from .parv import LONGEST_LINE, MOST_FILES, NoAnswer, Parv, Sighting, read_sighting
 from .slices import is_there
@@ -57,7 +58,7 @@ class Search:
         self.lengths = [file.length for file in files]
         self.most_waste = WASTE
         self.idle: Callable[[], None] = lambda: None
-        self.by_word = {file.word: number for number, file in enumerate(files)}
+        self.by_word = {shown(os.fsencode(file.word)): number for number, file in enumerate(files)}     # as parv shows it
         self.by_id = {file.id: file.first for file in the_set.files if file.slices}
         self.owners: List[Member] = [file for file in the_set.files for _ in file.numbers]
         self.looks: Dict[int, Place] = {}       # the place at which a last slice was looked for, by the slice's number
