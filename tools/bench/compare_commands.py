@@ -64,10 +64,10 @@ def steps_of(folder: Folder) -> Iterator[Step]:
         yield ("parv-map", "--width", "80", *options, *every)
     for words in ["verify", "-B", top], ["verify", "-B", top, "--tails"], ["find"]:
         yield ("parv-progress", *words, *plain)
-    for words in ["parts", "300"], ["parts", "1"], ["--tails", "parts with tails", "1000"]:
+    for words in ["parts", "20000"], ["parts", "1"], ["--tails", "parts with tails", "30000"]:
         yield ("parv-parts", *words, *plain)
     if plain != every:
-        yield from [("parv-progress", "verify", "-B", top, *every), ("parv-parts", "parts of all", "300", *every)]
+        yield from [("parv-progress", "verify", "-B", top, *every), ("parv-parts", "parts of all", "20000", *every)]
     for words in ["new"], ["--tails", "new"], ["--tails", "new with tails"], *([*words, words[1]] for words in chosen):
         yield ("parv-rescue", *words, *every)
     for words in [], *chosen:
