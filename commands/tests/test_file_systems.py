@@ -3,12 +3,15 @@ for what is special about them."""
 
 from __future__ import annotations
 
+import contextlib
 import errno
 import os
 import signal
+import sys
+import types
 import unittest
 import unittest.mock
-from typing import Any, Dict, List, Tuple
+from typing import Any, Dict, Iterator, List, Tuple
 
 from parv_commands.common import changes, folders
 from parv_commands.map import command as drawing
@@ -86,6 +89,38 @@ class FileSystems(Calls):
             ended = self.room.run(repair.main, ["room"])
         self.assertEqual((ended.status, ended.out, self.room.listing()), (6, "", before), ended)
         self.assertEqual(ended.said, "parv-repair: room: fine has come meanwhile, or is Fine in this file system\n")
+
+    def test_a_name_is_not_moved_if_another_file_is_listed_there(self) -> None:
+        """(Where case is folded, the system may still see a file at a name that was renamed by the name in another
+        case. Without a call that moves a file, the one whose name is removed isn't the one that was looked at then.)"""
+        self.room.fresh()
+        self.room.rename("fine", "stray")
+        before, real = self.room.listing(), os.scandir
+
+        @contextlib.contextmanager
+        def scandir(place: int) -> Iterator[List[Any]]:
+            with real(place) as entries:
+                yield [types.SimpleNamespace(name=each.name, inode=lambda inode=each.inode(), name=each.name: inode + (
+                    name == "stray")) for each in entries]
+        with unittest.mock.patch.object(changes, "_libc", types.SimpleNamespace()):
+            with unittest.mock.patch.object(os, "scandir", scandir):
+                ended = self.room.run(repair.main, ["room"])
+            self.assertEqual((ended.status, ended.out, self.room.listing()), (6, "", before), ended)
+            self.assertIn("cannot move stray to fine: Stale file handle", ended.said)
+            self.assertEqual(self.room.run(repair.main, ["room"]).last(), "complete")
+
+    def test_what_is_renamed_by_names_in_another_case_is_kept_on_ntfs(self) -> None:
+        room = Room({"g.txt": b"of the set", "x": b"of the set"})
+        self.addCleanup(room.close)
+        self.room = room
+        mount = self.disk("ntfs").replace("ignore_case", "ignore_case,permissions")     # so the system keeps names
+        script = (f'{mount} || exit 99\nmkdir disk/d; cp room/set.par2 disk/d; cd disk/d\n'
+                  'echo mine > g.txt; cp ../../room/x G.Txt.1; "$2" -c "$3"; "$1" . ; echo $?; cd ../..\n'
+                  f'umount disk; {mount}; grep -lrx mine disk/d')
+        renames = ("import os; os.lstat('g.txt.1'); os.lstat('g.txt'); os.rename('g.txt', 't')\n"
+                   "os.rename('G.Txt.1', 'g.txt'); os.rename('t', 'G.Txt.1')")
+        ended = self.mounting(script, os.path.join(BIN, "parv-repair"), sys.executable, renames)
+        self.assertEqual(ended[1].splitlines()[-1:], ["disk/d/g.txt.1"], ended)
 
     def folded(self) -> None:
         self.room.fresh()

@@ -18,6 +18,7 @@ observer: Optional[Observer] = None
 _MOST = 1 << 30         # the greatest number of bytes that one call writes
 _NOREPLACE = 1          # the flag RENAME_NOREPLACE
 NO_LINK = (errno.EPERM, errno.EOPNOTSUPP, errno.ENOSYS, errno.EMLINK)    # errors of a link where there can't be any
+_NO_INODE = 0xffffffff  # what FUSE lists if it doesn't know the inode of a file
 _libc = ctypes.CDLL(None, use_errno=True)
 Data = Union[bytes, memoryview]
 
@@ -204,8 +205,25 @@ def replace(place: int, name: bytes, new_name: bytes) -> None:
         os.replace(name, new_name, src_dir_fd=place, dst_dir_fd=place)
 
 
+def _is_listed(place: int, name: bytes) -> bool:
+    """Returns whether a folder lists a name with the inode of the file to which it leads, as far as that is known."""
+    opened = os.open(b".", os.O_RDONLY | os.O_DIRECTORY | os.O_CLOEXEC, dir_fd=place)
+    try:
+        with os.scandir(opened) as entries:
+            listed = next((entry.inode() for entry in entries if os.fsencode(entry.name) == name), None)
+    finally:
+        os.close(opened)
+    return listed in (None, _NO_INODE, os.stat(name, dir_fd=place, follow_symlinks=False).st_ino)
+
+
 def _move_by_link(place: int, name: bytes, new_place: int, new_name: bytes) -> None:
-    """Does the same as `move` on a file system that can't do it in one call. In between, the file has both names."""
+    """Does the same as `move` on a file system that can't do it in one call. In between, the file has both names.
+
+    Where a name has several forms, the system may still see a file at one after it was renamed by another. Then the
+    file that gets the new name isn't the one whose name is removed.
+    """
+    if not _is_listed(place, name):
+        raise OSError(errno.ESTALE, os.strerror(errno.ESTALE))
     with _change("link"):
         os.link(name, new_name, src_dir_fd=place, dst_dir_fd=new_place, follow_symlinks=False)
     remove_file(place, name)
