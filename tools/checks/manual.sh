@@ -162,7 +162,7 @@ if can_mount "the line for cron with no room"; then
     around=(bash -c 'mounting "$@"' - bash -c 'mount -t tmpfs -o size=4k,nr_inodes=$0 tmpfs small
         head -c 9999 /dev/zero 2> /dev/null > small/full
         "$@" 2> line || status=$?
-        sed "s|small/parv-[0-9a-f]*|small/parv-|" line >&2
+        sed "s|small/parv-[0-9a-z_]*|small/parv-|" line >&2
         exit $status')
     around+=(2)
     cron "no room for a temporary folder" 6 "" \
