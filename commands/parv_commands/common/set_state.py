@@ -374,7 +374,8 @@ class Verification:
     async def _state_of_own(self, tails: bool) -> Optional[SetState]:
         """Returns the state of the set with the files that have its names, if it is complete."""
         there = self._own_files()
-        if not there or len(there) > self.room:
+        is_listed_otherwise = self._is_listed and not there.keys() <= self.files.there.keys()   # as in lower case
+        if not there or is_listed_otherwise or len(there) > self.room:
             return None
         state = await self._state(FilesOfSet(there, self.files.unread, {}), list(there), tails)
         return state if state.is_complete else None
