@@ -26,7 +26,7 @@ READS: Dict[str, Set[str]] = {      # what the commands may use of modules that 
               stat_result strerror sysconf urandom write""".split()),
     "shutil": {"get_terminal_size", "which", "rmtree"}, "tempfile": {"mkdtemp"}, "ctypes": {"CDLL"}, "pathlib": set(), "io": set(),
 }
-SAYING = {"output.py"}      # modules that write to standard output and standard error
+SAYING = {"output_and_progress.py"}      # modules that write to standard output and standard error
 TEMPORARY = {"parv.py"}     # those that make and remove temporary folders
 CALLS = dict(pair.split(":") for pair in """mkdir:mkdir mkdirat:mkdir unlinkat:unlink unlink:unlink rmdir:rmdir
     symlinkat:symlink symlink:symlink renameat2:rename rename:rename renameat:rename linkat:link link:link write:write

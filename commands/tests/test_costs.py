@@ -10,9 +10,9 @@ import unittest
 import unittest.mock
 from typing import Any, Callable, Dict, List
 
-from parv_commands.common.folders import Folder, Identity, identity_of
+from parv_commands.common.opened_folder import Folder, Identity, identity_of
 from parv_commands.common.names import shown, with_number
-from parv_commands.common.packets import Member, RecoverySet
+from parv_commands.common.packet_io import Member, RecoverySet
 from parv_commands.repair import command as repair, journal
 from parv_commands.repair.journal import Made, Moves
 from parv_commands.repair.plan import ENDS, Alike, Plan, plan_of
@@ -76,7 +76,7 @@ class Equal(unittest.TestCase):
         contents = [b"a" * long, b"a" * long, b"b" + b"a" * (long - 1), b"a" * (long - 1) + b"b",
                     b"a" * ENDS + b"b" + b"a" * (long - ENDS - 1), b"a" * long, b"x", b"x", b"y", b"", b""]
         room = self.room_of({f"{number:02}": data for number, data in enumerate(contents)})
-        folder = Folder.opened(os.fsencode(room.folder))
+        folder = Folder.open(os.fsencode(room.folder))
         self.addCleanup(folder.close)
         there = {b"%02d" % number: identity_of(os.stat(room.path(f"{number:02}"))) for number in range(len(contents))}
         alike = Alike(folder, there)
@@ -124,12 +124,12 @@ class Equal(unittest.TestCase):
     def test_long_names_cost_no_more_memory_than_a_few_copies_of_them(self) -> None:
         members = [b"/".join([b"%06d" % number] + [b"x" * 19] * 198 + [b"f"]) for number in range(100)]
         room = self.room_of({"one": b"one"})
-        folder = Folder.opened(os.fsencode(room.folder))
+        folder = Folder.open(os.fsencode(room.folder))
         self.addCleanup(folder.close)
         tracemalloc.start()
         self.addCleanup(tracemalloc.stop)
         steps = self.plan(folder, members, {}).steps(lambda path: Identity(1, 2, 3))
-        journal.decoded(journal.encoded(steps))
+        journal.decode(journal.encode(steps))
         Moves(folder, b".parv-repair", steps, self.fail).sync()
         self.assertLess(tracemalloc.get_traced_memory()[1], 12 * sum(map(len, members)))
         self.assertEqual([step for step in steps if isinstance(step, Made)],
@@ -139,11 +139,11 @@ class Equal(unittest.TestCase):
         counted: List[int] = []
         for count in 50, 200:
             room = self.room_of({"x" * 249 + f"{number:06}": b"%d" % number for number in range(count)})
-            folder = Folder.opened(os.fsencode(room.folder))
+            folder = Folder.open(os.fsencode(room.folder))
             self.addCleanup(folder.close)
             there = {name: identity_of(os.stat(name, dir_fd=folder.place)) for name in map(os.fsencode, room.files)}
             with unittest.mock.patch.object(Folder, "look", autospec=True, side_effect=Folder.look) as looks, \
-                    unittest.mock.patch("parv_commands.common.folders.with_number", side_effect=with_number) as names:
+                    unittest.mock.patch("parv_commands.common.opened_folder.with_number", side_effect=with_number) as names:
                 plan = self.plan(folder, list(there), there)
                 moves = Moves(folder, b".parv-repair", plan.steps(lambda path: Identity(1, 2, 3)), self.fail)
                 before = room.listing()

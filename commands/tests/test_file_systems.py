@@ -13,7 +13,7 @@ import unittest
 import unittest.mock
 from typing import Any, Dict, Iterator, List, Tuple
 
-from parv_commands.common import changes, folders
+from parv_commands.common import changes, opened_folder
 from parv_commands.map import command as drawing
 from parv_commands.repair import command as repair
 
@@ -176,11 +176,11 @@ class FileSystems(Calls):
 
     def test_a_folder_that_is_mounted_below_is_seen_before_par2_works(self) -> None:
         os.makedirs(self.room.path("in/a"))
-        inner, before, real = os.stat(self.room.path("in")).st_ino, self.room.listing(), folders._mount_of
+        inner, before, real = os.stat(self.room.path("in")).st_ino, self.room.listing(), opened_folder._mount_of
 
         def mount_of(place: int) -> Tuple[int, bytes]:
             return (0, b"other") if os.fstat(place).st_ino == inner else real(place)
-        with unittest.mock.patch.object(folders, "_mount_of", mount_of):
+        with unittest.mock.patch.object(opened_folder, "_mount_of", mount_of):
             ended = self.room.run(repair.main, ["room"], PAR2="/bin/false")
         self.assertEqual((ended.status, ended.said), (6, "parv-repair: room: it reaches into another file system\n"))
         self.assertEqual(self.room.listing(), before)

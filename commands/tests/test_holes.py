@@ -9,9 +9,9 @@ import unittest.mock
 import zlib
 from typing import Any, Dict, List, Tuple
 
-from parv_commands.common import slices
+from parv_commands.common import slice_content
 from parv_commands.common.faults import Refusal
-from parv_commands.common.slices import fill, sums_of_zeros
+from parv_commands.common.slice_content import fill, sums_of_zeros
 from parv_commands.rescue import command as rescue
 
 from .rooms import Room, md5, packet, spent, write
@@ -47,7 +47,7 @@ class Files(unittest.TestCase):
                 file.write(DATA)
         self.opened = os.open(self.path, os.O_RDWR)
         self.addCleanup(os.close, self.opened)
-        if slices.data_from(self.opened, 0) == 0:
+        if slice_content.data_from(self.opened, 0) == 0:
             self.skipTest("the file system knows no holes")
 
     def read_by(self, does: str, *given: Any) -> Tuple[Any, int]:
@@ -59,7 +59,7 @@ class Files(unittest.TestCase):
             counts.append(len(real(opened, length, at)))
             return real(opened, length, at)
         with unittest.mock.patch.object(os, "pread", counted):
-            found = getattr(slices, does)(self.opened, *given)
+            found = getattr(slice_content, does)(self.opened, *given)
         return found, sum(counts)
 
     def test_only_data_are_read(self) -> None:
@@ -82,7 +82,7 @@ class Files(unittest.TestCase):
         for answer in (lambda opened, at, how: at), unittest.mock.Mock(side_effect=OSError(22, "Invalid argument")):
             with unittest.mock.patch.object(os, "lseek", answer):
                 self.assertEqual(self.read_by("zeros_in_holes", 64 << 20)[0], 0)
-                self.assertFalse(slices.is_hole(self.opened, 0, SIZE))
+                self.assertFalse(slice_content.is_hole(self.opened, 0, SIZE))
                 self.assertRaises(Refusal, fill, self.opened, bytes(9) + b"other" * 9, 3 << 20)
                 self.assertEqual(os.pread(self.opened, len(DATA), 3 << 20), DATA)
 
@@ -90,7 +90,7 @@ class Files(unittest.TestCase):
         data = bytes(32 << 20) + b"x" + bytes(4095)
         with open(self.path, "r+b") as file:
             file.truncate(160 * len(data))
-        with unittest.mock.patch.object(slices, "_runs_that_differ", wraps=slices._runs_that_differ) as looks:
+        with unittest.mock.patch.object(slice_content, "_runs_that_differ", wraps=slice_content._runs_that_differ) as looks:
             for number in range(9, 160):
                 fill(self.opened, data, number * len(data))
         self.assertEqual(looks.call_count, 1)

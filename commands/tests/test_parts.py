@@ -12,9 +12,9 @@ import unittest
 import unittest.mock
 from typing import List
 
-from parv_commands.common import changes, names, output, parv, programs
+from parv_commands.common import changes, names, output_and_progress as output, parv, programs
 from parv_commands.common.faults import Fault
-from parv_commands.common.folders import Folder
+from parv_commands.common.opened_folder import Folder
 from parv_commands.map import command as map_command
 from parv_commands.parts import command as parts
 from parv_commands.repair import command as repair
@@ -63,7 +63,7 @@ class Folders(unittest.TestCase):
         room = Room({"in/a": b"content"})
         self.addCleanup(room.close)
         write(os.path.join(room.top, "outside"), b"outside")
-        folder = Folder.opened(os.fsencode(room.folder))
+        folder = Folder.open(os.fsencode(room.folder))
         self.addCleanup(folder.close)
         for name in (b"../outside", b"in/../../outside", b"./in/a", b"in//a", os.fsencode(room.top) + b"/outside",
                      b"/outside", b"../new/outside"):
@@ -123,7 +123,7 @@ class Programs(unittest.TestCase):
     def test_what_a_program_has_started_ends_with_it(self) -> None:
         call = programs.Call(programs.Program("/bin/sh", "sh"), [b"-c", b"sleep 900 & echo $!; wait"])
         with programs.running(call) as process:
-            started = int(programs.finished(process.output())[1])
+            started = int(programs.run_to_end(process.output())[1])
         self.assertEqual(left_running(started), [])
 
     def test_all_programs_end_if_a_task_or_the_loop_fails(self) -> None:
@@ -138,12 +138,12 @@ class Programs(unittest.TestCase):
 
             async def run() -> None:
                 await asyncio.gather(*(programs.answer_of(call, take) for _ in range(3)))
-            self.assertRaises(MemoryError, programs.finished, run())
+            self.assertRaises(MemoryError, programs.run_to_end, run())
             self.assertEqual((len(numbers), left_running(*numbers)), (3, []))
 
     def test_a_program_that_has_closed_its_outputs_is_waited_for(self) -> None:
         call = programs.Call(programs.Program("/bin/sh", "sh"), [b"-c", b"echo out; exec >&- 2>&-; sleep 0.2; exit 7"])
-        self.assertEqual(programs.finished(programs.answer_of(call)), (7, b"out\n", b""))
+        self.assertEqual(programs.run_to_end(programs.answer_of(call)), (7, b"out\n", b""))
 
 
 class Progress(unittest.TestCase):

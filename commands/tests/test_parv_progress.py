@@ -9,7 +9,7 @@ import subprocess
 import termios
 from typing import List, Tuple
 
-from parv_commands.common import output
+from parv_commands.common import output_and_progress as output
 from parv_commands.progress import command as progress_of_parv
 
 from .calls import BIN, Calls, slow, terminal_text

@@ -15,10 +15,10 @@ from typing import Callable, Dict, List
 
 from parv_commands.common import changes
 from parv_commands.common.faults import Refusal
-from parv_commands.common.folders import Folder, Identity
+from parv_commands.common.opened_folder import Folder, Identity
 from parv_commands.repair import carry_out, command as repair, journal
 from parv_commands.repair.journal import Made, Move, Step
-from parv_commands.repair.work_folder import Stage
+from parv_commands.repair.work_folder import WorkFolder
 
 from .rooms import FULL, KILLED, SECRET, STAGE, At, Ended, Listing, Room, ends_by, logged, read, spent, write
 
@@ -101,11 +101,11 @@ class Moves(unittest.TestCase):
 
     def plant(self, steps: List[Step], secret: bytes = SECRET, changed: Callable[[bytes], bytes] = bytes) -> None:
         """Makes a stage with these steps as its journal, as a run of the user with this secret leaves it."""
-        with contextlib.closing(Folder.opened(os.fsencode(self.room.folder))) as folder, \
-                contextlib.closing(Stage(folder, secret, self.fail)) as place:
+        with contextlib.closing(Folder.open(os.fsencode(self.room.folder))) as folder, \
+                contextlib.closing(WorkFolder(folder, secret, self.fail)) as place:
             if not os.path.lexists(self.room.path(STAGE)):
                 place.make()
-            self.room.put(f"{STAGE}/journal", place.sealed(b"journal", changed(journal.encoded(steps))))
+            self.room.put(f"{STAGE}/journal", place.record_of(b"journal", changed(journal.encode(steps))))
 
     def test_a_file_that_comes_to_a_name_before_each_move_is_kept(self) -> None:
         self.turn()
@@ -433,14 +433,14 @@ class Moves(unittest.TestCase):
             self.assertIn("is finished", again.said)
 
     def test_a_journal_with_other_numbers_is_refused(self) -> None:
-        good = journal.encoded([Move(Identity(1, 2, -3), b"mine", b"taken")])
-        self.assertEqual(journal.decoded(good), [Move(Identity(1, 2, -3), b"mine", b"taken")])
+        good = journal.encode([Move(Identity(1, 2, -3), b"mine", b"taken")])
+        self.assertEqual(journal.decode(good), [Move(Identity(1, 2, -3), b"mine", b"taken")])
         for numbers in b"1 2", b"1 2 3 4", b"1 2 x", b"1 -2 3", b"1 2 3.5", b"1 2 %s" % (b"9" * 5000), b"":
             with self.assertRaisesRegex(Refusal, "it is no journal of this version"):
-                journal.decoded(good.replace(b"1 2 -3", numbers))
+                journal.decode(good.replace(b"1 2 -3", numbers))
         for data in b"", good[:-1], good[:-4], good[:20], good + b"\0", good.replace(b"journal 2", b"journal 1"):
             with self.assertRaisesRegex(Refusal, "it is no journal of this version"):
-                journal.decoded(data)
+                journal.decode(data)
 
     def test_backups_are_not_removed_by_the_run_after_one_that_was_ended(self) -> None:
         self.turn()
@@ -515,7 +515,7 @@ class Moves(unittest.TestCase):
             "a link": lambda: os.symlink("../other", self.room.path(STAGE)),
             "a file": lambda: self.room.put(STAGE, b"a file"),
             "a FIFO": lambda: os.mkfifo(self.room.path(STAGE)),
-            "a journal and no owner": lambda: self.room.put(f"{STAGE}/journal", journal.encoded([Made(b"sub")])),
+            "a journal and no owner": lambda: self.room.put(f"{STAGE}/journal", journal.encode([Made(b"sub")])),
             "an owner of the version before": lambda: self.room.put(f"{STAGE}/owner", b"parv-repair 1 inode 1\n"),
             "an owner that is a FIFO": lambda: self.odd_owner(lambda: os.mkfifo(owner)),
             "an owner without end": lambda: self.odd_owner(lambda: os.symlink("/dev/zero", owner)),

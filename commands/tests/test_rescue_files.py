@@ -13,7 +13,7 @@ import unittest.mock
 from typing import Callable, Dict, List, Optional
 
 from parv_commands.common import changes
-from parv_commands.rescue import command as rescue, record
+from parv_commands.rescue import command as rescue, resume_record
 
 from .calls import BIN, Calls
 from .rooms import KILLED, At, Ended, Room, file_id, read, set_of, unchanged, write
@@ -469,7 +469,7 @@ class Complete(Folders):
 
     def test_a_byte_that_has_changed_on_the_disk_is_noticed(self) -> None:
         """(The times of the file stay. Here they are made equal, as no test can make a disk rot.)"""
-        with unittest.mock.patch.object(record.Stamp, "__new__", lambda cls, *_: tuple.__new__(cls, (1, 1))):
+        with unittest.mock.patch.object(resume_record.Stamp, "__new__", lambda cls, *_: tuple.__new__(cls, (1, 1))):
             self.put("image", BIG)
             self.says(self.run_it("image"), 0, WHOLE.format(16), "")
             with open(self.path("new/big"), "r+b") as file:

@@ -14,10 +14,10 @@ import unittest
 import unittest.mock
 from typing import Callable, Dict, List, Optional, Tuple
 
-from parv_commands.common import arguments, changes, seals
+from parv_commands.common import arguments, changes, record_seals
 from parv_commands.common.faults import FILES, Fault
-from parv_commands.common.folders import Folder
-from parv_commands.common.seals import Chain, Seal
+from parv_commands.common.opened_folder import Folder
+from parv_commands.common.record_seals import Chain, Seal
 
 from .rooms import FULL, KILLED, SECONDS, At, Ended, Room, logged, read, write
 
@@ -26,9 +26,9 @@ def sealing() -> int:
     """A command that does nothing but get a seal for a record, as a run that writes one."""
     def run() -> int:
         place = os.open(b".", os.O_RDONLY)
-        os.write(1, seals.seal_to_write(b"kind", place).mark(b"text"))
+        os.write(1, record_seals.seal_to_write(b"kind", place).mark(b"text"))
         return 0
-    return arguments.ended("sealing", run)
+    return arguments.run_command("sealing", run)
 
 
 class Marks(unittest.TestCase):
@@ -50,7 +50,7 @@ class Marks(unittest.TestCase):
 
     def test_a_whole_record_has_its_text_only_with_its_own_mark(self) -> None:
         for text in b"", b"a", b"text\nand more\0\n":
-            data = self.seal.sealed(text)
+            data = self.seal.record_of(text)
             self.assertEqual(self.seal.text_of(data), text)
             self.assertEqual(data[:len(text)], text)
             for at in range(len(data)):
@@ -60,7 +60,7 @@ class Marks(unittest.TestCase):
             self.assertIsNone(self.seal.text_of(b"x" + data))
 
     def test_a_mark_is_of_one_secret_one_kind_and_one_place(self) -> None:
-        data = self.seal.sealed(b"text")
+        data = self.seal.record_of(b"text")
         for other in self.others():
             self.assertIsNone(other.text_of(data))
         again = Seal(b"s" * 32, b"kind", *self.places[:2])
@@ -92,7 +92,7 @@ class Marks(unittest.TestCase):
         self.assertEqual(reading.line(b"three"), written.line(b"three"))
 
     def test_a_whole_record_is_not_taken_for_the_first_line(self) -> None:
-        data = self.seal.sealed(b"text ")
+        data = self.seal.record_of(b"text ")
         self.assertEqual(Chain(self.seal).take(data.rstrip(b"\n")), None)
 
 
@@ -149,8 +149,8 @@ class Secrets(unittest.TestCase):
 
     def test_runs_that_begin_at_once_make_one(self) -> None:
         text = ("import os, sys; sys.path.insert(0, sys.argv[1]); from parv_commands.common import seals\n"
-                "place = os.open('.', os.O_RDONLY); print(seals.seal_to_write(b'kind', place).mark(b'text'))")
-        above = os.path.dirname(os.path.dirname(os.path.realpath(seals.__file__)))
+                "place = os.open('.', os.O_RDONLY); print(record_seals.seal_to_write(b'kind', place).mark(b'text'))")
+        above = os.path.dirname(os.path.dirname(os.path.realpath(record_seals.__file__)))
         for _ in range(5):
             self.gone()
             runs = [subprocess.Popen([sys.executable, "-B", "-c", text, above], stdout=subprocess.PIPE,
@@ -172,7 +172,7 @@ class Secrets(unittest.TestCase):
 
     def test_reading_makes_nothing(self) -> None:
         def reads() -> int:
-            return arguments.ended("reads", lambda: 0 if seals.seal_to_read(b"kind") is None else 1)
+            return arguments.run_command("reads", lambda: 0 if record_seals.seal_to_read(b"kind") is None else 1)
         ended = self.room.run(reads, [])
         self.assertEqual((ended.status, ended.calls, os.path.exists(self.room.state_home)), (0, [], False), ended)
         os.makedirs(self.folder, 0o700)
@@ -248,18 +248,18 @@ class Secrets(unittest.TestCase):
                     unittest.mock.patch.object(os, "geteuid", return_value=user), \
                     unittest.mock.patch("pwd.getpwuid") as known:
                 known.return_value.pw_dir = os.path.join(self.room.top, "user")
-                self.assertEqual(seals.state_folder(), wanted, environment)
+                self.assertEqual(record_seals.state_folder(), wanted, environment)
         with unittest.mock.patch.dict(os.environ, {}, clear=True), \
                 unittest.mock.patch("pwd.getpwuid", side_effect=KeyError(1)):
             with self.assertRaisesRegex(Fault, "no home is known .* XDG_STATE_HOME can name a folder"):
-                seals.state_folder()
+                record_seals.state_folder()
 
 
 class Aside(unittest.TestCase):
     def test_any_entry_gets_an_unused_name_and_is_not_read(self) -> None:
         room = Room({"one": b"one"})
         self.addCleanup(room.close)
-        folder = Folder.opened(os.fsencode(room.folder))
+        folder = Folder.open(os.fsencode(room.folder))
         self.addCleanup(folder.close)
         said: List[str] = []
         makes: List[Callable[[str], None]] = [
@@ -270,7 +270,7 @@ class Aside(unittest.TestCase):
                 make(room.path(".x"))
                 before = os.lstat(room.path(".x"))
                 with unittest.mock.patch.object(changes, "_libc", object() if without else changes._libc):
-                    name = seals.set_aside(folder, b".x", b"x.kept", said.append)
+                    name = record_seals.set_aside(folder, b".x", b"x.kept", said.append)
                 self.assertFalse(os.path.lexists(room.path(".x")))
                 self.assertTrue(os.path.samestat(before, os.lstat(room.path(os.fsdecode(name)))))
         self.assertEqual(sorted(name for name in os.listdir(room.folder) if name.startswith("x")),

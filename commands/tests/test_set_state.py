@@ -8,10 +8,10 @@ import unittest
 from typing import Dict, List, Optional
 
 from parv_commands.common.faults import FILES, IMPOSSIBLE, POSSIBLE, Fault
-from parv_commands.common.folders import Folder
+from parv_commands.common.opened_folder import Folder
 from parv_commands.common.parv import Links, Parv, temporary_folder
-from parv_commands.common.programs import Program, finished
-from parv_commands.common.set_state import FolderWords, SetState, Verification, files_of, packet_files_of, text_of
+from parv_commands.common.programs import Program, run_to_end
+from parv_commands.common.state_of_set import FolderWords, SetState, Verification, files_of, packet_files_of, text_of
 
 from .rooms import PARV, Room, read, set_of, write
 
@@ -49,13 +49,13 @@ class States(unittest.TestCase):
     def state(self, is_one_of_many: bool = False, most_open: int = 1000, set_id: Optional[str] = None,
               tails: bool = False) -> SetState:
         write(os.path.join(self.room.top, "calls"), b"")
-        with contextlib.closing(Folder.opened(os.fsencode(self.room.folder))) as folder, temporary_folder() as temporary:
+        with contextlib.closing(Folder.open(os.fsencode(self.room.folder))) as folder, temporary_folder() as temporary:
             parv = Parv(Program(self.program, "parv"), Links(temporary, (folder.place,)))
             words, packet_files = FolderWords(folder, parv), packet_files_of(folder)
             packet_words = [words.word_of(name, True) for name in packet_files.names]
-            the_set = finished(parv.set(packet_words, set_id))
+            the_set = run_to_end(parv.set(packet_words, set_id))
             verification = Verification(words, the_set, packet_words, most_open, self.messages.append)
-            return finished(verification.state(tails, is_one_of_many))
+            return run_to_end(verification.state(tails, is_one_of_many))
 
     def sources(self) -> Dict[bytes, Optional[bytes]]:
         state = self.state()
@@ -142,7 +142,7 @@ class States(unittest.TestCase):
         self.room.rename("set.par2", "a8f3")
         self.room.put("damaged.PAR2", b"no packet")
         self.room.put("short", b"PAR2\0PK")
-        with contextlib.closing(Folder.opened(os.fsencode(self.room.folder))) as folder:
+        with contextlib.closing(Folder.open(os.fsencode(self.room.folder))) as folder:
             self.assertEqual(packet_files_of(folder), ([b"damaged.PAR2", b"a8f3"], {}))
             os.symlink("a8f3", self.room.path("link.par2"))
             os.mkdir(self.room.path("folder.par2"))
@@ -219,7 +219,7 @@ class States(unittest.TestCase):
         write(os.path.join(self.room.top, "up"), b"")
         self.room.put("fine", b"")
         self.assertEqual(self.sources()[b"fine"], b"fine")
-        with contextlib.closing(Folder.opened(os.fsencode(self.room.folder))) as folder:
+        with contextlib.closing(Folder.open(os.fsencode(self.room.folder))) as folder:
             found = files_of(folder, self.state().the_set.files)
         self.assertEqual(set(found.refused), set(files) - {b"fine"})
         self.assertNotIn(b"../up", found.there)

@@ -18,9 +18,9 @@ import unittest
 import unittest.mock
 from typing import Iterator, List, Tuple
 
-from parv_commands.common import changes, folders, output
+from parv_commands.common import changes, opened_folder, output_and_progress as output
 from parv_commands.tree import command as tree
-from parv_commands.tree.state import HEAD
+from parv_commands.tree.lines_and_state import HEAD
 from parv_commands.watch import command as watch
 
 from .calls import BIN, Calls, left_running, slow, take_all_signals, terminal_text
@@ -225,12 +225,12 @@ class WithoutSets(TreeTest):
                 place = inner
             os.close(os.open("x.par2", os.O_CREAT | os.O_WRONLY, dir_fd=place))
             os.close(place)
-        top = folders.Folder.opened(os.fsencode(self.room.folder))
+        top = opened_folder.Folder.open(os.fsencode(self.room.folder))
         self.addCleanup(top.close)
         gc.collect()        # (so that no file of an earlier test is closed meanwhile)
         opened = len(os.listdir("/proc/self/fd"))
         unread: List[Tuple[bytes, str]] = []
-        with unittest.mock.patch.object(folders, "_inner", wraps=folders._inner) as inners:
+        with unittest.mock.patch.object(opened_folder, "_inner", wraps=opened_folder._inner) as inners:
             found = set(tree._walk(top, unread))
         self.assertEqual(unread, [])
         self.assertTrue({branch + b"/d" * 300 + b"/x.par2" for branch in (b"deep", b"deeper")} < found)

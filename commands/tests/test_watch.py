@@ -10,7 +10,7 @@ import time
 import unittest.mock
 from typing import List
 
-from parv_commands.common import folders
+from parv_commands.common import opened_folder
 from parv_commands.watch import command as watch
 
 from .calls import BIN, Calls, take_all_signals
@@ -136,7 +136,7 @@ class Watch(Calls):
     def test_a_subfolder_that_may_not_be_looked_into_ends_nothing(self) -> None:
         self.room.put("set.par2", set_of({b"in/a": b"content"}, 8, 0))
         refused = unittest.mock.Mock(side_effect=PermissionError(errno.EACCES, "Permission denied"))
-        with unittest.mock.patch.object(folders.Folder, "look", refused):
+        with unittest.mock.patch.object(opened_folder.Folder, "look", refused):
             ended = self.room.run(watch.main, ["room", "0", "2"])
         self.assertEqual((ended.status, ended.out, ended.said),
                          (6, "nothing to tell yet: cannot open in: Permission denied\n" * 2, ""))

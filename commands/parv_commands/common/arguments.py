@@ -9,7 +9,7 @@ import sys
 import traceback
 from typing import Any, Callable, NoReturn, Optional
 
-from . import output, programs, signals
+from . import output_and_progress as output, programs, signals
 from .faults import FILES, MEMORY, USAGE, Fault
 from .names import shown
 from .programs import Program
@@ -81,7 +81,7 @@ def read(parser: Parser) -> argparse.Namespace:
     return options
 
 
-def is_set_id(text: str) -> str:
+def set_id_of(text: str) -> str:
     if not re.fullmatch("[0-9A-Fa-f]{32}", text):
         raise argparse.ArgumentTypeError("a set ID has 32 hexadecimal digits")
     return text.lower()
@@ -91,7 +91,7 @@ def needed_parv() -> Program:
     return programs.needed_program("PARV", "parv")
 
 
-def ended(command: str, run: Callable[[], int]) -> int:
+def run_command(command: str, run: Callable[[], int]) -> int:
     """Runs a command to its end and returns its exit status. Unless a signal ended it, a line on standard error says
     what did."""
     output.begin(command)

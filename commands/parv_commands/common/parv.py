@@ -15,10 +15,10 @@ import tempfile
 from typing import (Callable, Container, Dict, FrozenSet, Iterable, Iterator, List, Mapping, Match, NamedTuple, Optional,
                     Pattern, Sequence, Tuple)
 
-from . import changes, output
+from . import changes, output_and_progress as output
 from .faults import FILES, MEMORY, NO_SET, USAGE, Fault, NoProgram, faults_of
-from .folders import Folder
 from .names import is_packet_file, shown, unshown
+from .opened_folder import Folder
 from .programs import Answer, Call, Program, answer_of, pieces_of
 
 MOST_FILES = 65_535         # the most files in one command line
@@ -227,11 +227,11 @@ def read_verdict(text: bytes, status: int, answer: SetAnswer) -> Verdict:
 # Runs of parv.
 
 class Links:
-    """The temporary folder of links, and the names in messages of the files by their words. `kept` has opened folders
-    through which links lead."""
+    """The temporary folder of links, and the names in messages of the files by their words. `folders` has the opened
+    ones through which links lead."""
 
-    def __init__(self, folder: Folder, kept: Tuple[int, ...]) -> None:
-        self.folder, self.kept = folder, kept
+    def __init__(self, folder: Folder, folders: Tuple[int, ...]) -> None:
+        self.folder, self.folders = folder, folders
         self.shown: Dict[str, str] = {}
 
     def word(self, target: bytes, name: str, is_packet_file: bool = False) -> str:
@@ -261,7 +261,7 @@ def folder_within(above: Folder) -> Iterator[Folder]:
 @contextlib.contextmanager
 def temporary_folder() -> Iterator[Folder]:
     """Makes a folder for temporary files, which is removed however the command ends."""
-    above = Folder.opened(os.fsencode(os.path.abspath(os.environ.get("TMPDIR") or "/tmp")))
+    above = Folder.open(os.fsencode(os.path.abspath(os.environ.get("TMPDIR") or "/tmp")))
     with contextlib.closing(above), folder_within(above) as folder:
         yield folder
 
@@ -271,19 +271,19 @@ def path_below(folder: Folder, name: bytes) -> bytes:
     return b"/proc/self/fd/%d/%s" % (folder.place, name)
 
 
-def fault_of(program: Program, status: int, said: bytes, command: str, names: Mapping[str, str]) -> Fault:
-    """Returns the error of a run without an answer, from what parv has said. `names` has the names for messages, by the
+def fault_of(program: Program, status: int, standard_error: bytes, command: str, names: Mapping[str, str]) -> Fault:
+    """Returns the error of a run without an answer, from what parv says. `names` has the names for messages, by the
     words."""
-    line = said.decode("utf-8", "backslashreplace").split("\n")[0]
+    line = standard_error.decode("utf-8", "backslashreplace").split("\n")[0]
     if status < 0:
         return NoProgram(FILES, f"{program.shown} was ended by signal {-status}")
     if status not in _FAULTS:
         return NoProgram(FILES, f"{program.shown} {command} has ended with status {status}, and isn't parv")
     if not line.startswith("parv: "):
         return NoAnswer(command)
-    if status == USAGE and said == CURSOR_OF_OTHERS:   # the command itself has made the cursor
+    if status == USAGE and standard_error == CURSOR_OF_OTHERS:   # the command itself has made the cursor
         return Fault(FILES, "a file that is searched has another length now than before")
-    about = _ABOUT.match(said)
+    about = _ABOUT.match(standard_error)
     name = names.get(about[2].decode("ascii", "replace")) if about else None
     if about and name:
         return Fault(status, f"{about[1].decode()} {name}")
@@ -310,17 +310,17 @@ class Parv:
 
     def _call(self, command: str, words: Sequence[str]) -> Call:
         return Call(self.program, [word.encode() for word in (command, *words)], self.links.folder.place,
-                    self.links.kept)
+                    self.links.folders)
 
-    def fault_of(self, status: int, said: bytes, command: str) -> Fault:
+    def fault_of(self, status: int, standard_error: bytes, command: str) -> Fault:
         """Returns the error of a run without an answer."""
-        return fault_of(self.program, status, said, command, self.links.shown)
+        return fault_of(self.program, status, standard_error, command, self.links.shown)
 
     @contextlib.contextmanager
     def pieces(self, command: str, words: Sequence[str], most: int = 0) -> Iterator[Iterator[bytes]]:
         """Runs parv and gives its answer, in pieces, as it comes. It must end with 0."""
-        def fault(status: int, said: bytes) -> Fault:
-            return self.fault_of(status, said, command)
+        def fault(status: int, standard_error: bytes) -> Fault:
+            return self.fault_of(status, standard_error, command)
         with output.doing(f"parv {command}", most):
             with contextlib.closing(pieces_of(self._call(command, words), fault)) as pieces:
                 yield pieces
@@ -332,15 +332,15 @@ class Parv:
         with output.doing(f"parv {command}", most) if self.shows else contextlib.nullcontext():
             ended = await answer_of(self._call(command, words), takes)
         if ended.status not in statuses:
-            raise self.fault_of(ended.status, ended.said, command)
+            raise self.fault_of(ended.status, ended.standard_error, command)
         return ended
 
-    async def set(self, packet_words: Sequence[str], chosen: Optional[str]) -> SetAnswer:
-        ended = await self.answer("set", [*(["--set", chosen] if chosen else []), "--", *packet_words])
+    async def set(self, packet_words: Sequence[str], set_id: Optional[str]) -> SetAnswer:
+        ended = await self.answer("set", [*(["--set", set_id] if set_id else []), "--", *packet_words])
         return read_set(ended.out)
 
-    async def packets(self, packet_words: Sequence[str], chosen: Optional[str] = None) -> List[PacketLine]:
-        ended = await self.answer("packets", [*(["--set", chosen] if chosen else []), "--", *packet_words])
+    async def packets(self, packet_words: Sequence[str], set_id: Optional[str] = None) -> List[PacketLine]:
+        ended = await self.answer("packets", [*(["--set", set_id] if set_id else []), "--", *packet_words])
         found = read_packets(ended.out)
         if not all(packet.word in self.links.shown for packet in found):
             raise NoAnswer("packets")

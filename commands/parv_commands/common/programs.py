@@ -15,7 +15,7 @@ import time
 from typing import (TYPE_CHECKING, Any, Callable, Container, Coroutine, Dict, Generator, Iterator, List, NamedTuple,
                     Optional, Sequence, Tuple, TypeVar)
 
-from . import output
+from . import output_and_progress as output
 from .faults import FILES, Fault, NoProgram
 from .names import shown
 from .signals import interruptible
@@ -25,8 +25,8 @@ if TYPE_CHECKING:
 
 USUAL = "/usr/local/bin:/usr/bin:/bin"      # the PATH, if none is set
 PIECE = 1 << 16
-MOST_OUTPUT = 1 << 28       # the most bytes in an answer that is kept as a whole
-MOST_SAID = 1 << 16         # the most bytes of standard error that are kept
+MOST_OUTPUT = 1 << 28       # the most bytes in an answer that is folders as a whole
+MOST_SAID = 1 << 16         # the most bytes of standard error that are folders
 _PR_SET_PDEATHSIG = 1
 _ROUNDS, _ROUND = 200, 0.01     # how often, and after how many seconds, it looks whether a group has ended
 _SOON = 0.001       # seconds until it looks first whether a program has ended that has closed its outputs
@@ -59,11 +59,11 @@ def find_program(variable: str, usual: str) -> Optional[Program]:
 
 
 def needed_program(variable: str, usual: str) -> Program:
-    found = find_program(variable, usual)
-    if found is None:
+    program = find_program(variable, usual)
+    if program is None:
         name = shown(os.fsencode(os.environ.get(variable) or usual))
         raise NoProgram(FILES, f"cannot run {name}: put {usual} in PATH, or name it by {variable}")
-    return found
+    return program
 
 
 def raise_file_limit() -> int:
@@ -110,7 +110,7 @@ class Call(NamedTuple):
     program: Program
     words: Sequence[bytes]
     place: Optional[int] = None
-    kept: Tuple[int, ...] = ()
+    folders: Tuple[int, ...] = ()
     own: Container[int] = ()
 
 
@@ -118,7 +118,7 @@ class Answer(NamedTuple):
     """How a program has ended (below 0 by a signal), and what it has written."""
     status: int
     out: bytes
-    said: bytes
+    standard_error: bytes
 
 
 class _Selector(selectors.DefaultSelector):
@@ -143,7 +143,7 @@ def _loop() -> asyncio.AbstractEventLoop:
     return Loop(_Selector())
 
 
-def finished(coroutine: Coroutine[Any, Any, T]) -> T:
+def run_to_end(coroutine: Coroutine[Any, Any, T]) -> T:
     """Runs a coroutine to its end. If a signal or an error ends it, everything that it has begun is ended first."""
     loop = _loop()
     task = loop.create_task(coroutine)
@@ -216,7 +216,7 @@ def running(call: Call) -> Iterator[Process]:
         process = subprocess.Popen([os.fsencode(call.program.path), *call.words], env=environment(),
                                    stdin=None if 0 in call.own else subprocess.DEVNULL,
                                    stdout=None if 1 in call.own else subprocess.PIPE, stderr=subprocess.PIPE,
-                                   preexec_fn=_child(call.place), pass_fds=call.kept)
+                                   preexec_fn=_child(call.place), pass_fds=call.folders)
     except (OSError, subprocess.SubprocessError) as fault:
         why = fault.strerror if isinstance(fault, OSError) else str(fault)
         raise NoProgram(FILES, f"cannot run {call.program.shown}: {why}") from fault
@@ -270,13 +270,13 @@ def pieces_of(call: Call, fault_of: Callable[[int, bytes], Fault]) -> Generator[
     0, from its status and its standard error."""
     standard_error = _Beginning(call.program, MOST_SAID)
     with running(call) as process:
-        number, piece = finished(process.output())
+        number, piece = run_to_end(process.output())
         while number:
             if number == 1:
                 yield piece
             else:
                 standard_error.take(piece)
-            number, piece = finished(process.output())
+            number, piece = run_to_end(process.output())
         status = process.status
     if status != 0:
         raise fault_of(status, bytes(standard_error))

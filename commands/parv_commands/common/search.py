@@ -10,9 +10,9 @@ from typing import Callable, Dict, Generator, Iterator, List, NamedTuple, Sequen
 from . import changes
 from .faults import Fault, faults_of
 from .names import shown
-from .packets import Member, RecoverySet, packets_for
+from .packet_io import Member, RecoverySet, packets_for
 from .parv import LONGEST_LINE, MOST_FILES, NoAnswer, Parv, Sighting, read_sighting
-from .slices import is_there
+from .slice_content import is_there
 
 WASTE = 1 << 24     # how many bytes may be searched in vain; each match of no target counts as LINE more
 LINE = 4096
@@ -58,7 +58,8 @@ class Search:
         self.lengths = [file.length for file in files]
         self.most_waste = WASTE
         self.idle: Callable[[], None] = lambda: None
-        self.by_word = {shown(os.fsencode(file.word)): number for number, file in enumerate(files)}     # as parv shows it
+        # (By the word as parv shows it.)
+        self.by_word = {shown(os.fsencode(file.word)): number for number, file in enumerate(files)}
         self.by_id = {file.id: file.first for file in the_set.files if file.slices}
         self.owners: List[Member] = [file for file in the_set.files for _ in file.numbers]
         self.looks: Dict[int, Place] = {}       # the place at which a last slice was looked for, by the slice's number

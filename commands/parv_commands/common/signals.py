@@ -68,7 +68,7 @@ def interruptible() -> Iterator[None]:
         _Signals.open = before
 
 
-def wait_point() -> None:
+def end_if_signalled() -> None:
     """Ends the command here if a signal has come."""
     with interruptible():
         pass

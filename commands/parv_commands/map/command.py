@@ -8,16 +8,16 @@ import secrets
 import shutil
 from typing import Dict, Iterator, List, NamedTuple, Optional, Sequence, Set
 
-from ..common import arguments, changes, output, signals
-from ..common.command_files import CommandFiles, link_files, most_files_at_once, read_set
+from ..common import arguments, changes, output_and_progress as output, signals
 from ..common.faults import FILES, USAGE, Fault, faults_of
+from ..common.files_on_command_line import CommandFiles, link_files, most_files_at_once, read_set
 from ..common.names import base_of, shown
-from ..common.packets import Member, RecoverySet
+from ..common.packet_io import Member, RecoverySet
 from ..common.parv import Links, NoAnswer, Parv, SetAnswer, temporary_folder
-from ..common.programs import finished
+from ..common.programs import run_to_end
 from ..common.search import ScannedFile, Search
-from ..common.set_state import has_same_bytes
-from ..common.slices import is_there
+from ..common.slice_content import is_there
+from ..common.state_of_set import has_same_bytes
 from . import pictures
 from .pictures import IN_PLACE, MISSING, MOVED, NOT_KNOWN, Map
 
@@ -84,7 +84,7 @@ def _map_in_place(the_set: RecoverySet, file: Member, own: Sequence[ScannedFile]
             opened = scanned_file.opener()
             try:
                 for number in range(file.slices):
-                    signals.wait_point()
+                    signals.end_if_signalled()
                     output.show_progress(number * the_set.size)
                     if states[number] != IN_PLACE and _is_in_place(the_set, file, number, opened, tails):
                         states[number] = IN_PLACE
@@ -94,8 +94,8 @@ def _map_in_place(the_set: RecoverySet, file: Member, own: Sequence[ScannedFile]
 
 
 def _map_of_unknown(file: Member, source: Optional[ScannedFile], own: Sequence[ScannedFile]) -> Map:
-    """Returns the map of a file whose slices have no checksums, from the searched file that has its content according to
-    parv, and those that have its name."""
+    """Returns the map of a file whose slices have no checksums, from the searched file that has its content according
+    to parv, and those that have its name."""
     state = NOT_KNOWN
     if source is not None:
         with output.doing("equal files are compared"):
@@ -126,7 +126,7 @@ def maps_of(the_set: RecoverySet, answer: SetAnswer, files: CommandFiles, parv: 
         candidates = _may_be_whole(the_set, files, most_files)
         most = sum(file.length for file in candidates) * 2
         by_word = {file.word: file for file in candidates}
-        verdict = finished(parv.verify(answer, files.packet_words, list(by_word), False, most))
+        verdict = run_to_end(parv.verify(answer, files.packet_words, list(by_word), False, most))
         if any(state.word not in (None, *by_word) for state in verdict.states):
             raise NoAnswer("verify")
         sources = [by_word.get(state.word or "") for state in verdict.states]
@@ -232,7 +232,7 @@ def parser() -> arguments.Parser:
     reader = arguments.Parser("parv-map", DESCRIPTION, EPILOG)
     reader.add_argument("files", metavar="FILES", nargs="+", help=arguments.SEARCHED)
     reader.add_argument("--tails", action="store_true", help=arguments.TAILS)
-    reader.add_argument("--set", metavar="ID", type=arguments.is_set_id, help=arguments.CHOSEN_SET)
+    reader.add_argument("--set", metavar="ID", type=arguments.set_id_of, help=arguments.CHOSEN_SET)
     reader.add_argument("-B", "--base", metavar="DIR", default="", help="remove DIR/ from the names of searched files")
     reader.add_argument("--width", metavar="N", type=int,
                         help="draw lines of N characters (default: as wide as the terminal)")
@@ -252,4 +252,4 @@ def main() -> int:
             reader.error("a page or a picture needs a name")
         return draw(Options(list(map(os.fsencode, options.files)), options.tails, options.set, os.fsencode(options.base),
                           options.width, options.html, options.svg))
-    return arguments.ended("parv-map", run)
+    return arguments.run_command("parv-map", run)

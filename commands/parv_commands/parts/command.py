@@ -8,10 +8,10 @@ import os
 import re
 from typing import Iterator, List, NamedTuple, Optional, Sequence
 
-from ..common import arguments, changes, output, programs
+from ..common import arguments, changes, output_and_progress as output, programs
 from ..common.faults import FILES, USAGE, Fault, faults_of
-from ..common.folders import Folder
 from ..common.names import shown
+from ..common.opened_folder import Folder
 from ..common.parv import CURSOR_OF_OTHERS, LONGEST_LINE, NoAnswer, fault_of, most_read, read_sighting
 from ..common.programs import Program
 from ..common.signals import interruptible
@@ -251,7 +251,7 @@ def search(options: Options) -> int:
     programs.raise_file_limit()
     with faults_of("make", shown(options.folder)):
         changes.make_path(options.folder)
-    with contextlib.closing(Folder.opened(options.folder)) as folder, lock(folder):
+    with contextlib.closing(Folder.open(options.folder)) as folder, lock(folder):
         parts = Parts(folder, text_of(options))
         while not parts.is_over:
             cursor = [b"--cursor", parts.last[7:].encode()] if parts.last else []
@@ -280,4 +280,4 @@ def main() -> int:
             reader.error("LIMIT is a number from 1 on")
         return search(Options(options.tails, os.fsencode(options.parts), os.fsencode(options.limit),
                             list(map(os.fsencode, options.files))))
-    return arguments.ended("parv-parts", run)
+    return arguments.run_command("parv-parts", run)

@@ -9,7 +9,7 @@ import signal
 import sys
 from typing import Callable, List, NoReturn
 
-from ..common import arguments, output, programs, signals
+from ..common import arguments, output_and_progress as output, programs, signals
 from ..common.faults import FILES, NoProgram
 from ..common.parv import most_read
 from ..common.programs import Program
@@ -48,22 +48,22 @@ def _is_terminal(number: int) -> bool:
         return False
 
 
-def _become(program: Program, given: List[bytes]) -> NoReturn:
+def _become(program: Program, words: List[bytes]) -> NoReturn:
     """Runs parv in place of this command."""
     for number in signal.SIGPIPE, signal.SIGXFSZ:     # Python ignores these; parv must not
         signal.signal(number, signal.SIG_DFL)
-    signals.wait_point()
+    signals.end_if_signalled()
     try:
-        os.execve(program.path, [os.fsencode(program.path), *given], programs.environment())
+        os.execve(program.path, [os.fsencode(program.path), *words], programs.environment())
     except OSError as fault:
         raise NoProgram(FILES, f"cannot run {program.shown}: {fault.strerror}") from fault
 
 
-def _show(program: Program, given: List[bytes]) -> int:
+def _show(program: Program, words: List[bytes]) -> int:
     """Runs parv, shows how far it is, and returns its exit status."""
     is_terminal = _is_terminal(1)
-    options = given[:given.index(b"--")] if b"--" in given else given
-    times = 1 if given[0] == b"find" else 3 if b"--tails" in options else 2
+    options = words[:words.index(b"--")] if b"--" in words else words
+    times = 1 if words[0] == b"find" else 3 if b"--tails" in options else 2
 
     def passes(number: int) -> Callable[[bytes], None]:
         def takes(piece: bytes) -> None:
@@ -71,9 +71,9 @@ def _show(program: Program, given: List[bytes]) -> int:
             with signals.interruptible():
                 output.pass_on(piece, number)
         return takes
-    call = programs.Call(program, given, own=(0,) if is_terminal else (0, 1))
-    with output.doing("parv", most_read(given[1:], times), True):
-        status = programs.finished(programs.answer_of(call, passes(1), passes(2))).status
+    call = programs.Call(program, words, own=(0,) if is_terminal else (0, 1))
+    with output.doing("parv", most_read(words[1:], times), True):
+        status = programs.run_to_end(programs.answer_of(call, passes(1), passes(2))).status
     return status if status >= 0 else 128 - status
 
 
@@ -88,15 +88,15 @@ def parser() -> arguments.Parser:
 
 def main() -> int:
     def run() -> int:
-        given = list(map(os.fsencode, sys.argv[1:]))
-        if given[:1] in ([b"-h"], [b"--help"]):
+        words = list(map(os.fsencode, sys.argv[1:]))
+        if words[:1] in ([b"-h"], [b"--help"]):
             parser().print_help()
             return 0
-        if not given or given[0] not in map(os.fsencode, COMMANDS):
+        if not words or words[0] not in map(os.fsencode, COMMANDS):
             parser().error("the first argument must be find or verify")
         program = arguments.needed_parv()
         programs.raise_file_limit()
-        if not output.can_show_progress() or given[0] == b"find" and _is_terminal(1):
-            _become(program, given)
-        return _show(program, given)
-    return arguments.ended("parv-progress", run)
+        if not output.can_show_progress() or words[0] == b"find" and _is_terminal(1):
+            _become(program, words)
+        return _show(program, words)
+    return arguments.run_command("parv-progress", run)

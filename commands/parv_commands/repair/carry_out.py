@@ -9,16 +9,15 @@ import os
 import stat
 from typing import Callable, List, Optional, Sequence
 
-from ..common import changes, names, output, seals, signals
+from ..common import changes, names, output_and_progress as output, record_seals, signals
 from ..common.faults import FILES, Fault, Refusal, faults_of
-from ..common.folders import Folder, Identity, identity_of
 from ..common.names import shown
-from . import work_folder
+from ..common.opened_folder import Folder, Identity, identity_of
 from .journal import Moves
-from .par2 import Making
 from .plan import Backup, Plan, plan_of
+from .run_par2 import Par2Run
 from .situation import Inspection, Situation, refuse_mounted
-from .work_folder import MADE, Stage, path_of
+from .work_folder import JOURNAL, MADE, NAME, WorkFolder, is_there, path_of
 
 PIECE = 1 << 20
 
@@ -26,20 +25,20 @@ PIECE = 1 << 20
 def carry_out(inspection: Inspection, situation: Situation, removes_backups: bool) -> List[str]:
     """Makes all files complete, and returns the lines that say what was done."""
     folder = situation.folder
-    stage = Stage(folder, seals.needed_secret(), inspection.report)
+    work_folder = WorkFolder(folder, record_seals.needed_secret(), inspection.report)
     moves: Optional[Moves] = None
     try:
-        stage.make()
-        _make_empty_files(stage, situation)
+        work_folder.make()
+        _make_empty_files(work_folder, situation)
         if situation.repairs:
-            situation = situation.with_made(Making(inspection, situation, stage).made())
-        _keep_closed(situation)
+            situation = situation.with_made(Par2Run(inspection, situation, work_folder).make())
+        _keep_rights(situation)
         with output.doing("equal files are compared"):
             plan = plan_of(situation)
-        _copy(stage, plan)
+        _copy(work_folder, plan)
         moves = _moves_of(folder, plan, inspection)
         with output.waiting("what was made is brought to the disk"):
-            stage.note(moves.steps, plan.made())
+            work_folder.note(moves.steps, plan.made())
         with output.waiting("files are moved"):
             moves.make()
         inspection.verify()
@@ -47,53 +46,54 @@ def carry_out(inspection: Inspection, situation: Situation, removes_backups: boo
             changes.sync_all(folder.place)
         removable = _removable(inspection, plan.backups) if removes_backups else []
     except Refusal as why:
-        _put_back(stage, moves, inspection)
+        _put_back(work_folder, moves, inspection)
         raise Fault(FILES, str(why)) from why
     except BaseException:
-        _put_back(stage, moves, inspection)
+        _put_back(work_folder, moves, inspection)
         raise
     with output.waiting("temporary files are removed"):
-        stage.forget()
-        stage.clear()
+        work_folder.forget()
+        work_folder.clear()
     removed = [backup.kept for backup in removable if _remove(inspection, backup)]
     return [*plan.lines, *(f"remove {shown(kept)}" for kept in removed), "complete"]
 
 
-def _put_back(stage: Stage, moves: Optional[Moves], inspection: Inspection) -> None:
-    """Undoes what was done, and removes the stage. An error says what couldn't be undone."""
-    if not work_folder.is_there(stage.folder):
+def _put_back(work_folder: WorkFolder, moves: Optional[Moves], inspection: Inspection) -> None:
+    """Undoes what was done, and removes the work folder. An error says what couldn't be undone."""
+    if not is_there(work_folder.folder):
         return
     try:
-        with output.waiting("all is put back"), contextlib.closing(stage):
-            if moves is not None and stage.opened.look(work_folder.JOURNAL) is not None:
+        with output.waiting("all is put back"), contextlib.closing(work_folder):
+            if moves is not None and work_folder.inside.look(JOURNAL) is not None:
                 moves.undo()
                 moves.sync()
-                stage.forget()
-            stage.clear()
+                work_folder.forget()
+            work_folder.clear()
     except (Fault, Refusal, OSError) as fault:
-        inspection.report(f"{fault}; {shown(work_folder.NAME)} stays, for the next run to finish or to undo")
+        inspection.report(f"{fault}; {shown(NAME)} stays, for the next run to finish or to undo")
 
 
-# Files in the stage.
+# Files in the work folder.
 
-def _make_file(stage: Stage, name: bytes, fill: Callable[[int], None]) -> None:
-    with faults_of("write in", stage.folder.shown), contextlib.closing(stage.opened.inner(MADE)) as made:
+def _make_file(work_folder: WorkFolder, name: bytes, fill: Callable[[int], None]) -> None:
+    with faults_of("write in", work_folder.folder.shown), contextlib.closing(work_folder.inside.inner(MADE)) as made:
         with changes.new_file(made.place, name) as opened:
             fill(opened)
 
 
-def _make_empty_files(stage: Stage, situation: Situation) -> None:
+def _make_empty_files(work_folder: WorkFolder, situation: Situation) -> None:
     inside = path_of(MADE) + b"/"
     for origin in situation.origins:
         if origin.startswith(inside):
-            _make_file(stage, origin[len(inside):], lambda opened: None)
+            _make_file(work_folder, origin[len(inside):], lambda opened: None)
 
 
-def _copy(stage: Stage, plan: Plan) -> None:
+def _copy(work_folder: WorkFolder, plan: Plan) -> None:
     """Makes the copies in a plan."""
     for copy in plan.copies:
         with output.doing(f"{shown(copy.source)} is copied", plan.there[copy.source].length or 0):
-            _make_file(stage, names.base_of(copy.target), functools.partial(_fill, stage.folder, copy.source))
+            fill = functools.partial(_fill, work_folder.folder, copy.source)
+            _make_file(work_folder, names.base_of(copy.target), fill)
 
 
 def _fill(folder: Folder, path: bytes, opened: int) -> None:
@@ -103,7 +103,7 @@ def _fill(folder: Folder, path: bytes, opened: int) -> None:
         now = os.fstat(source)
         done = 0
         while piece := os.read(source, PIECE):
-            signals.wait_point()
+            signals.end_if_signalled()
             changes.write(opened, piece)
             done += len(piece)
             output.show_progress(done)
@@ -113,7 +113,7 @@ def _fill(folder: Folder, path: bytes, opened: int) -> None:
         os.close(source)
 
 
-def _keep_closed(situation: Situation) -> None:
+def _keep_rights(situation: Situation) -> None:
     """Gives each file that was made the mode of the file that it replaces, and its owner if that can be given. So what
     was private isn't readable for others, as a file that par2 makes may be."""
     folder = situation.folder
@@ -136,9 +136,9 @@ def _access_list(opened: int) -> bytes:
 
 
 def _set_like(opened: int, before: os.stat_result, access_list: bytes) -> None:
-    """Gives a file the owner and the mode of another one. If it can't have that group, or hasn't the same access control
-    list, nobody but its owner and all others gets rights: in a mode with such a list, those of the group are the
-    greatest of all that it names. (The file loses the bits by which it would run as its owner.)"""
+    """Gives a file the owner and the mode of another one. If it can't have that group, or hasn't the same access
+    control list, nobody but its owner and all others gets rights: in a mode with such a list, those of the group are
+    the greatest of all that it names. (The file loses the bits by which it would run as its owner.)"""
     now, mode = os.fstat(opened), stat.S_IMODE(before.st_mode) & 0o777
     if (now.st_uid, now.st_gid) != (before.st_uid, before.st_gid):
         try:
@@ -161,12 +161,12 @@ def _moves_of(folder: Folder, plan: Plan, inspection: Inspection) -> Moves:
         if now is None or not stat.S_ISREG(now.st_mode):
             raise Refusal(f"{shown(path)} has changed meanwhile")
         return identity_of(now)
-    moves = Moves(folder, work_folder.NAME, plan.steps(identity), inspection.report)
+    moves = Moves(folder, NAME, plan.steps(identity), inspection.report)
     ends = [end for step in moves.moves() for end in (step.origin, step.target)]
     refuse_mounted(folder, set(map(names.above, ends)))
     for path in ends:
-        # (Only now is the stage there, so only now can another form of its name be seen.)
-        why = None if moves.is_staged(path) else folder.obstacle(path, work_folder.NAME)
+        # (Only now is the work folder there, so only now can another form of its name be seen.)
+        why = None if moves.is_in_work_folder(path) else folder.obstacle(path, NAME)
         if why is not None:
             raise Refusal(f"{shown(path)} can't be used: {why}")
     return moves
@@ -182,7 +182,8 @@ def _removable(inspection: Inspection, backups: Sequence[Backup]) -> List[Backup
             removable.append(backup)
         else:
             file = inspection.the_set.files[backup.number]
-            inspection.report(f"{shown(backup.kept)} has no slice of {file.shown} that is found without --tails, and stays")
+            inspection.report(f"{shown(backup.kept)} has no slice of {file.shown} that is found without --tails, "
+                              "and stays")
     return removable
 
 

@@ -8,17 +8,17 @@ import os
 import re
 from typing import Iterator, List, NamedTuple, Optional, Tuple
 
-from ..common import arguments, output, programs, signals
+from ..common import arguments, output_and_progress as output, programs, signals
 from ..common.faults import FILES, POSSIBLE, Fault, NoProgram, Refusal
-from ..common.folders import Folder
 from ..common.names import shown
+from ..common.opened_folder import Folder
+from ..common.output_and_progress import Report
 from ..common.parv import Links, temporary_folder
 from ..common.programs import Program
-from ..common.set_state import Report
 from . import work_folder
 from .carry_out import carry_out
-from .par2 import needed_par2
 from .plan import plan_of
+from .run_par2 import needed_par2
 from .situation import Inspection, Situation
 
 _NUMBERED = re.compile(rb".+\.[1-9][0-9]*", re.DOTALL)
@@ -50,16 +50,16 @@ PARV and PAR2 name the programs if they aren't in PATH. See man parv-repair.
 """
 
 
-class Asked(NamedTuple):
+class Options(NamedTuple):
     """The folder and options of the command line."""
     folder: bytes
-    dry: bool
-    purge: bool
-    chosen: Optional[str]
+    dry_run: bool
+    remove_backups: bool
+    set_id: Optional[str]
 
 
 @contextlib.contextmanager
-def locked(folder: Folder) -> Iterator[None]:
+def lock(folder: Folder) -> Iterator[None]:
     """Keeps other runs out of a folder. (Programs that are run don't inherit the lock.)"""
     lock = os.open(b".", os.O_RDONLY | os.O_DIRECTORY | os.O_CLOEXEC, dir_fd=folder.place)
     try:
@@ -104,11 +104,11 @@ def _trial(inspection: Inspection, situation: Situation) -> Tuple[int, List[str]
     return POSSIBLE, [*plan.lines, f"a repair can be tried: {situation.counts}"]
 
 
-def _repair(asked: Asked, folder: Folder, program: Program, removes_backups: bool) -> Tuple[int, List[str]]:
+def _repair(options: Options, folder: Folder, program: Program, removes_backups: bool) -> Tuple[int, List[str]]:
     """Looks at the folder, and does what is to be done. Returns the exit status, and the lines that say it."""
     most_open = programs.raise_file_limit()
     with temporary_folder() as temporary, contextlib.closing(
-            Inspection(folder, program, Links(temporary, (folder.place,)), most_open, asked.chosen)) as inspection:
+            Inspection(folder, program, Links(temporary, (folder.place,)), most_open, options.set_id)) as inspection:
         state = inspection.state()
         if state.is_complete:
             inspection.report_unread()
@@ -117,28 +117,28 @@ def _repair(asked: Asked, folder: Folder, program: Program, removes_backups: boo
             return 0, ["complete"]
         situation = inspection.situation(state)
         inspection.report_unread()
-        if asked.dry:
+        if options.dry_run:
             return _trial(inspection, situation)
         return 0, carry_out(inspection, situation, removes_backups)
 
 
-def _run(asked: Asked, folder: Folder, program: Program) -> Tuple[int, List[str]]:
+def _run(options: Options, folder: Folder, program: Program) -> Tuple[int, List[str]]:
     def report(text: str) -> None:
         output.say(f"{folder.shown}: {text}")
-    with locked(folder):
-        removes_backups = asked.purge
-        if _recover(folder, asked.dry, report) and removes_backups:
+    with lock(folder):
+        removes_backups = options.remove_backups
+        if _recover(folder, options.dry_run, report) and removes_backups:
             report("so --remove-backups removes nothing")   # a backup may be a file that somebody has written since
             removes_backups = False
-        return _repair(asked, folder, program, removes_backups)
+        return _repair(options, folder, program, removes_backups)
 
 
-def repair(asked: Asked) -> int:
+def repair(options: Options) -> int:
     """Runs the command, and returns its exit status."""
     program = arguments.needed_parv()
-    folder = Folder.opened(asked.folder)
+    folder = Folder.open(options.folder)
     try:
-        status, lines = _run(asked, folder, program)
+        status, lines = _run(options, folder, program)
     except Fault as fault:
         raise Fault(fault.status, f"{folder.shown}: {fault}") from fault
     except (OSError, Refusal) as fault:
@@ -156,7 +156,7 @@ def parser() -> arguments.Parser:
     reader.add_argument("--dry-run", action="store_true", help="print what a run would do, and change nothing")
     reader.add_argument("--remove-backups", action="store_true",
                         help="at the end, remove the damaged files that this run has kept")
-    reader.add_argument("--set", metavar="ID", type=arguments.is_set_id, help=arguments.CHOSEN_SET)
+    reader.add_argument("--set", metavar="ID", type=arguments.set_id_of, help=arguments.CHOSEN_SET)
     return reader
 
 
@@ -166,5 +166,5 @@ def main() -> int:
         options = arguments.read(reader)
         if not options.folder:
             reader.error("missing argument: FOLDER")
-        return repair(Asked(os.fsencode(options.folder), options.dry_run, options.remove_backups, options.set))
-    return arguments.ended("parv-repair", run)
+        return repair(Options(os.fsencode(options.folder), options.dry_run, options.remove_backups, options.set))
+    return arguments.run_command("parv-repair", run)

@@ -12,18 +12,19 @@ import errno
 import os
 import re
 import stat
-from typing import Callable, Iterator, List, NamedTuple, Optional, Sequence, Set, Union
+from typing import Iterator, List, NamedTuple, Optional, Sequence, Set, Union
 
 from ..common import changes
 from ..common.faults import FILES, Fault, Refusal
-from ..common.folders import Folder, Identity
 from ..common.names import base_of, is_plain, is_reserved, shown, with_number
+from ..common.opened_folder import Folder, Identity
+from ..common.output_and_progress import Report
 
 HEAD = b"parv-repair journal 2"
 END = b"end"
 MOST = 1 << 28          # the greatest number of bytes in a journal
 PIECE = 1 << 20
-ASIDE = b"aside"        # the folder of the stage into which files are moved
+ASIDE = b"aside"        # the folder of the work folder into which files are moved
 _FIELDS = 5
 _DEPTH = re.compile(rb"[1-9][0-9]{0,3}")
 _NUMBERS = re.compile(rb"([0-9]{1,20}) ([0-9]{1,20}) (-?[0-9]{1,20})")     # a file may be older than 1970
@@ -44,10 +45,9 @@ class Made(NamedTuple):
 
 
 Step = Union[Move, Made]
-Sayer = Callable[[str], None]
 
 
-def encoded(steps: Sequence[Step]) -> bytes:
+def encode(steps: Sequence[Step]) -> bytes:
     fields: List[bytes] = [HEAD]
     for step in steps:
         if isinstance(step, Made):
@@ -62,7 +62,7 @@ def encoded(steps: Sequence[Step]) -> bytes:
     return data
 
 
-def decoded(data: bytes) -> List[Step]:
+def decode(data: bytes) -> List[Step]:
     """Returns the steps of a journal. One of another version is refused."""
     fields = data.split(b"\0")
     if fields[0] != HEAD or fields[-2:] != [END, b""] or (len(fields) - 3) % _FIELDS:
@@ -99,22 +99,22 @@ def read_file(folder: Folder, name: bytes, most: int = MOST) -> bytes:
 
 
 class Moves:
-    """The steps of a journal, and the folder in which they are made. `stage` contains the files of the command
+    """The steps of a journal, and the folder in which they are made. `work_folder` contains the files of the command
     itself. Steps that no run makes are refused."""
 
-    def __init__(self, folder: Folder, stage: bytes, steps: Sequence[Step], say: Sayer) -> None:
-        self.folder, self.stage, self.steps, self.say = folder, stage + b"/", list(steps), say
+    def __init__(self, folder: Folder, work_folder: bytes, steps: Sequence[Step], say: Report) -> None:
+        self.folder, self.work_folder, self.steps, self.say = folder, work_folder + b"/", list(steps), say
         self.by_origin = {step.origin: step for step in self.moves()}
         self.ends = {end for step in self.moves() for end in (step.origin, step.target)}
         self._refuse_wrong()
 
     def _refuse_wrong(self) -> None:
         """Refuses steps with a name that leads out of the folder or is kept for the commands, moves to a name from
-        itself, and two steps to one name. (What is removed with the stage is never the target of a move.)"""
+        itself, and two steps to one name. (What is removed with the work folder is never the target of a move.)"""
         targets: Set[bytes] = set()
         for step in self.steps:
             name, target = (step.path, step.path) if isinstance(step, Made) else (step.origin, step.target)
-            for end, inside in (name, self.stage), (target, self.stage + ASIDE + b"/"):
+            for end, inside in (name, self.work_folder), (target, self.work_folder + ASIDE + b"/"):
                 is_inside = end.startswith(inside) and end.count(b"/") == 2
                 if not is_plain(end) or is_reserved(end) and not is_inside:
                     raise Refusal(f"no run moves a file to {shown(end)} or from there")
@@ -122,18 +122,18 @@ class Moves:
                 raise Refusal(f"no run moves a file to {shown(target)} from itself or twice")
             targets.add(target)
 
-    def is_staged(self, name: bytes) -> bool:
-        """Returns whether a name is in the stage, where nobody else puts files."""
-        return name.startswith(self.stage)
+    def is_in_work_folder(self, name: bytes) -> bool:
+        """Returns whether a name is in the work folder, where nobody else puts files."""
+        return name.startswith(self.work_folder)
 
     def moves(self) -> Iterator[Move]:
         return (step for step in self.steps if isinstance(step, Move))
 
     def has(self, move: Move, name: bytes) -> bool:
-        """Returns whether the file of a move is at a name. Outside the stage, it must be unchanged. (In the stage, a
-        program that has it open may still have written to it.)"""
+        """Returns whether the file of a move is at a name. Outside the work folder, it must be unchanged. (In the work
+        folder, a program that has it open may still have written to it.)"""
         now = self.folder.look(name)
-        if self.is_staged(name):
+        if self.is_in_work_folder(name):
             return now is not None and stat.S_ISREG(now.st_mode) and now.st_ino == move.file.inode
         return move.file.fits(now)
 
@@ -253,11 +253,11 @@ class Moves:
             if now is not None and now.st_ino == step.file.inode:
                 self.say(f"{shown(end)} has changed since, and stays")
             return
-        if self.is_staged(step.origin) and not self._can_return(end):
+        if self.is_in_work_folder(step.origin) and not self._can_return(end):
             return
         if self.folder.is_free(step.origin):
             self.carry(end, step.origin)
-        elif not self.is_staged(end):
+        elif not self.is_in_work_folder(end):
             self.say(f"{shown(end)} stays: there is another file at {shown(step.origin)}")
 
     def _end_of(self, step: Move) -> bytes:
@@ -281,13 +281,13 @@ class Moves:
         further = self.by_origin.get(left.target)
         return further is not None and self.has(further, further.target)
 
-    # Files that are left in the stage.
+    # Files that are left in the work folder.
 
     def bring_out(self) -> None:
-        """Moves each file of the folder out of the stage: to its new name, to its old one, or to an unused name like
-        these."""
+        """Moves each file of the folder out of the work folder: to its new name, to its old one, or to an unused name
+        like these."""
         for into in self.moves():
-            if not self.is_staged(into.target) or not self.has(into, into.target):
+            if not self.is_in_work_folder(into.target) or not self.has(into, into.target):
                 continue
             further = self.by_origin.get(into.target)
             names = [*([further.target] if further else []), into.origin]

@@ -8,10 +8,10 @@ import os
 from typing import Callable, Deque, Dict, Iterable, List, Mapping, NamedTuple, Optional, Sequence, Set, Tuple
 
 from ..common.faults import Refusal
-from ..common.folders import Folder, Identity
 from ..common.names import UsedNames, has_room_for_number, is_reserved, shown
-from ..common.signals import wait_point
-from ..common.slices import pieces_of_file, with_progress
+from ..common.opened_folder import Folder, Identity
+from ..common.signals import end_if_signalled
+from ..common.slice_content import pieces_of_file, with_progress
 from .journal import ASIDE, Made, Move, Step
 from .situation import Situation
 from .work_folder import MADE, path_of
@@ -43,8 +43,8 @@ class NewName(NamedTuple):
 
 
 class Plan(NamedTuple):
-    """What is to be done for the files of a set: the lines that say it, and the copies, the moves before the folders are
-    made, these folders, and the moves after that. `backups` has the files that the first moves keep."""
+    """What is to be done for the files of a set: the lines that say it, and the copies, the moves before the folders
+    are made, these folders, and the moves after that. `backups` has the files that the first moves keep."""
     lines: List[str]
     copies: List[Copy]
     moves_away: List[NewName]
@@ -60,7 +60,7 @@ class Plan(NamedTuple):
         return [*away, *self.folders, *inward]
 
     def made(self) -> List[bytes]:
-        """Returns the paths of files in the stage that get a name."""
+        """Returns the paths of files in the work folder that get a name."""
         return [each.origin for each in self.moves_in if each.file not in self.there]
 
 
@@ -98,9 +98,9 @@ class Alike:
 
     def _group(self, length: int, names: List[bytes]) -> None:
         """Groups all files of a length. Those whose ends are alike are read completely."""
-        first = _grouped((self._of(name, lambda opened: _hash_of_ends(opened, length)), name) for name in names)
+        first = _groups_of((self._of(name, lambda opened: _hash_of_ends(opened, length)), name) for name in names)
         for some in first:
-            groups = [some] if len(some) == 1 or length <= 2 * ENDS else _grouped(
+            groups = [some] if len(some) == 1 or length <= 2 * ENDS else _groups_of(
                 (self._of(name, _hash_of_all), name) for name in some)
             for group in groups:
                 shared = collections.deque(group)
@@ -109,13 +109,13 @@ class Alike:
     def _of(self, name: bytes, hashed: Callable[[int], bytes]) -> bytes:
         opened = self.folder.open_to_read(name)
         try:
-            wait_point()
+            end_if_signalled()
             return hashed(opened)
         finally:
             os.close(opened)
 
 
-def _grouped(pairs: Iterable[Tuple[bytes, bytes]]) -> List[List[bytes]]:
+def _groups_of(pairs: Iterable[Tuple[bytes, bytes]]) -> List[List[bytes]]:
     groups: Dict[bytes, List[bytes]] = {}
     for key, name in pairs:
         groups.setdefault(key, []).append(name)
@@ -191,8 +191,8 @@ class _Planner:
         return self.copies[-1].target
 
     def _make_way(self, number: int) -> None:
-        """Moves the file that has the name of a file of the set: through the stage if it is to be renamed, otherwise to
-        a free name."""
+        """Moves the file that has the name of a file of the set: through the work folder if it is to be renamed,
+        otherwise to a free name."""
         name = self.files[number].name
         now = self.folder.look(name)
         if now is None:
@@ -237,7 +237,7 @@ class _Planner:
         folders: List[Made] = []
         before: List[bytes] = []
         for name in sorted(members):
-            wait_point()
+            end_if_signalled()
             parts = name.split(b"/")[:-1]
             there = self.folder.depth(name)
             shared = next((at for at, pair in enumerate(zip(before, parts)) if pair[0] != pair[1]),

@@ -7,17 +7,17 @@ import re
 import stat
 from typing import Dict, List, NamedTuple, Optional, Sequence, Set
 
-from ..common import names, output
+from ..common import names, output_and_progress as output
 from ..common.faults import FILES, IMPOSSIBLE, NO_REPAIR, NO_SET, USAGE, Fault, Refusal
-from ..common.folders import Folder, Identity
 from ..common.names import RESERVED_NAMES, shown
-from ..common.packets import PacketFiles, RecoverySet, names_of_others, read_recovery_set
+from ..common.opened_folder import Folder, Identity
+from ..common.packet_io import PacketFiles, RecoverySet, names_of_others, read_recovery_set
 from ..common.parv import Links, PacketLine, Parv, SetAnswer
-from ..common.programs import Program, finished
+from ..common.programs import Program, run_to_end
 from ..common.search import ScannedFile, Search
-from ..common.set_state import (FolderWords, PacketFileNames, SetState, Sources, Verification, is_same, packet_files_of,
-                                text_of)
-from ..common.signals import wait_point
+from ..common.signals import end_if_signalled
+from ..common.state_of_set import (FolderWords, PacketFileNames, SetState, Sources, Verification, is_same,
+                                   packet_files_of, text_of)
 from . import work_folder
 from .work_folder import FILES_OF_PAR2, MADE, name_for, path_of
 
@@ -53,14 +53,14 @@ def refuse_mounted(folder: Folder, subfolders: Set[bytes]) -> None:
     """Ends the run if one of these subfolders isn't in the file system of the folder, or is mounted from there: no file
     can be moved into it in one call."""
     for path in sorted(subfolders):
-        wait_point()
+        end_if_signalled()
         if folder.is_elsewhere(path):
             raise Refusal("it reaches into another file system")
 
 
 class Inspection:
-    """Looks at a folder that is to be repaired, and has parv look at its files again later. `set_id` chooses the set, if
-    there are several."""
+    """Looks at a folder that is to be repaired, and has parv look at its files again later. `set_id` chooses the set,
+    if there are several."""
 
     def __init__(self, folder: Folder, program: Program, links: Links, most_open: int, set_id: Optional[str]) -> None:
         self.folder = folder
@@ -96,13 +96,13 @@ class Inspection:
     def _set_of(self, packet_words: Sequence[str], set_id: Optional[str]) -> SetAnswer:
         """Returns the set of the packet files, or the one that was chosen."""
         try:
-            self.lines = finished(self.parv.packets(packet_words))
+            self.lines = run_to_end(self.parv.packets(packet_words))
             sets = list(dict.fromkeys(line.set for line in self.lines if line.kind == "main"))
             if set_id is None and len(sets) > 1:
                 raise Fault(USAGE, f"there are several sets, of which --set takes one: {' '.join(sets)}")
             if set_id is None and not sets:
                 raise Fault(NO_SET, "no usable set: no main")
-            return finished(self.parv.set(packet_words, set_id or sets[0]))
+            return run_to_end(self.parv.set(packet_words, set_id or sets[0]))
         except Fault as fault:
             if fault.status != NO_SET or not self.packet_files.unread:
                 raise
@@ -114,7 +114,7 @@ class Inspection:
     def state(self) -> SetState:
         """Returns the state of the set. Ends the run if too little is left for a repair."""
         self.verification.gather()      # (always, since it looks for more than the set: what isn't read, and backups)
-        state, refusal = finished(self.verification.state_by_any_means())
+        state, refusal = run_to_end(self.verification.state_by_any_means())
         if state.verdict.status == IMPOSSIBLE and None in state.sources:
             raise self._too_few(state, refusal)
         return state
@@ -174,10 +174,10 @@ class Inspection:
     # Later looks.
 
     def verify(self) -> None:
-        """Ends the run unless all files are complete now. A name counts too if it is listed in another form than the set
-        has it, as on a file system that lists all names in lower case."""
+        """Ends the run unless all files are complete now. A name counts too if it is listed in another form than the
+        set has it, as on a file system that lists all names in lower case."""
         self.verification.gather()
-        state = finished(self.verification.state())
+        state = run_to_end(self.verification.state())
         if not all(source is not None and (source == file.name or self._leads_to(file.name, source))
                    for file, source in zip(self.the_set.files, state.sources)):
             raise Fault(NO_REPAIR, f"it isn't complete after the repair: {state.verdict.counts}")

@@ -1,8 +1,8 @@
-"""The stage: the folder in which a repair works, below the one that it repairs. Until the moves, par2 has its links and
-its results there. While names change, the journal is there.
+"""The work folder: the folder in which a repair works, below the one that it repairs. Until the moves, par2 has its
+links and its results there. While names change, the journal is there.
 
-A folder may come from anyone, with a stage in it. So the file `owner` and the journal have seals, and a stage without
-the right ones is set aside: nothing in it is followed or removed.
+A folder may come from anyone, with a work folder in it. So the file `owner` and the journal have seals, and a work
+folder without the right ones is set aside: nothing in it is followed or removed.
 """
 
 from __future__ import annotations
@@ -13,13 +13,14 @@ import os
 import stat
 from typing import Iterable, Iterator, List, NamedTuple, Optional
 
-from ..common import changes, seals
+from ..common import changes, record_seals
 from ..common.faults import FILES, Fault, Refusal, faults_of
-from ..common.folders import Folder
 from ..common.names import shown
-from ..common.seals import Seal
+from ..common.opened_folder import Folder
+from ..common.output_and_progress import Report
+from ..common.record_seals import Seal
 from . import journal
-from .journal import ASIDE, Moves, Sayer, Step
+from .journal import ASIDE, Moves, Step
 
 NAME = b".parv-repair"
 KEPT = b"parv-repair.kept"
@@ -27,7 +28,7 @@ OWNER, JOURNAL, NEW = b"owner", b"journal", b"journal.new"
 FILES_OF_PAR2, MADE = b"files", b"made"
 PARTS = (FILES_OF_PAR2, MADE, ASIDE)
 _OWNED = b"parv-repair 2\n"
-_MOST_OWNER = len(_OWNED) + seals.MARK + 1
+_MOST_OWNER = len(_OWNED) + record_seals.MARK + 1
 _NO_TEXT = b"?"
 _CLOSED = (errno.ENOTDIR, errno.ELOOP, errno.EACCES, errno.EPERM, errno.ENXIO, errno.ENODEV)
 _EARLIER = b".verify_and_repair"        # what the script of version 0.4.0, which parv-repair has replaced, has left
@@ -35,7 +36,7 @@ EARLIER_KEPT = b"verify_and_repair.kept"
 
 
 def path_of(*parts: bytes) -> bytes:
-    """Returns the path of something in the stage, from the folder that is repaired."""
+    """Returns the path of something in the work folder, from the folder that is repaired."""
     return b"/".join([NAME, *parts])
 
 
@@ -45,15 +46,15 @@ def name_for(number: int) -> bytes:
     return b"file%d" % number
 
 
-class Stage:
-    """The stage of a folder, while it exists. The secret is that of the user, if there is one."""
+class WorkFolder:
+    """The work folder of a folder, while it exists. The secret is that of the user, if there is one."""
 
-    def __init__(self, folder: Folder, secret: Optional[bytes], say: Sayer) -> None:
+    def __init__(self, folder: Folder, secret: Optional[bytes], say: Report) -> None:
         self.folder, self.secret, self.say = folder, secret, say
         self.inner: Optional[Folder] = None
 
     @property
-    def opened(self) -> Folder:
+    def inside(self) -> Folder:
         if self.inner is None:
             self.inner = self.folder.inner(NAME)
         return self.inner
@@ -64,41 +65,41 @@ class Stage:
             self.inner = None
 
     def _seal(self, kind: bytes) -> Optional[Seal]:
-        """Returns the seal for a file of the stage: of this user, this folder and this stage."""
+        """Returns the seal for a file of the work folder: of this user, this folder and this work folder."""
         if self.secret is None:
             return None
-        return Seal(self.secret, b"parv-repair " + kind, self.folder.place, self.opened.place)
+        return Seal(self.secret, b"parv-repair " + kind, self.folder.place, self.inside.place)
 
-    def sealed(self, kind: bytes, text: bytes) -> bytes:
-        """Returns what a file of the stage with this text has, or nothing without a secret."""
+    def record_of(self, kind: bytes, text: bytes) -> bytes:
+        """Returns what a file of the work folder with this text has, or nothing without a secret."""
         seal = self._seal(kind)
-        return b"" if seal is None else seal.sealed(text)
+        return b"" if seal is None else seal.record_of(text)
 
     def make(self) -> None:
         with faults_of("write in", self.folder.shown):
             changes.make_folder(self.folder.place, NAME, 0o700)
-            with changes.new_file(self.opened.place, OWNER) as opened:
-                changes.write(opened, self.sealed(OWNER, _OWNED))
+            with changes.new_file(self.inside.place, OWNER) as opened:
+                changes.write(opened, self.record_of(OWNER, _OWNED))
                 changes.sync(opened)
             for name in PARTS:
-                changes.make_folder(self.opened.place, name)
+                changes.make_folder(self.inside.place, name)
 
     def is_own(self) -> bool:
-        """Returns whether a run of this user has made the stage, in this folder: whether its owner has the right mark.
-        (A run may have been ended before it had written all of that.)"""
-        owner = self.sealed(OWNER, _OWNED)
-        noted: Optional[bytes] = None
+        """Returns whether a run of this user has made the work folder, in this folder: whether its owner has the right
+        mark. (A run may have been ended before it had written all of that.)"""
+        owner = self.record_of(OWNER, _OWNED)
+        text: Optional[bytes] = None
         with contextlib.suppress(FileNotFoundError):
-            noted = self._read(OWNER, _MOST_OWNER)
-        if owner and noted == owner:
+            text = self._read(OWNER, _MOST_OWNER)
+        if owner and text == owner:
             return True
-        names = self.opened.names()
-        return not names or (len(names) == 1 and bool(owner) and noted is not None and owner.startswith(noted))
+        names = self.inside.names()
+        return not names or (len(names) == 1 and bool(owner) and text is not None and owner.startswith(text))
 
     def _read(self, name: bytes, most: int) -> bytes:
-        """Returns the bytes of a file in the stage, or none of one that no run has made."""
+        """Returns the bytes of a file in the work folder, or none of one that no run has made."""
         try:
-            return journal.read_file(self.opened, name, most)
+            return journal.read_file(self.inside, name, most)
         except Refusal:
             return _NO_TEXT
         except OSError as fault:
@@ -117,8 +118,8 @@ class Stage:
                     changes.sync(opened)
                 finally:
                     os.close(opened)
-            with self._naming_journal(), changes.whole_file(self.opened.place, JOURNAL, NEW) as opened:
-                changes.write(opened, self.sealed(JOURNAL, journal.encoded(steps)))
+            with self._naming_journal(), changes.whole_file(self.inside.place, JOURNAL, NEW) as opened:
+                changes.write(opened, self.record_of(JOURNAL, journal.encode(steps)))
             changes.sync_folder(self.folder.place)
 
     @contextlib.contextmanager
@@ -137,25 +138,25 @@ class Stage:
     def forget(self) -> None:
         """Removes the journal, after all moves."""
         with faults_of("write in", self.folder.shown):
-            changes.remove_file(self.opened.place, JOURNAL)
-            changes.sync_folder(self.opened.place)
+            changes.remove_file(self.inside.place, JOURNAL)
+            changes.sync_folder(self.inside.place)
 
     def moves(self) -> Optional[Moves]:
         """Returns the moves that a run has recorded here, or None if it didn't get that far. A journal without the
         right mark is refused."""
-        if self.opened.look(JOURNAL) is None:
+        if self.inside.look(JOURNAL) is None:
             return None
         seal = self._seal(JOURNAL)
-        text = None if seal is None else seal.text_of(self._read(JOURNAL, journal.MOST + seals.MARK + 1))
+        text = None if seal is None else seal.text_of(self._read(JOURNAL, journal.MOST + record_seals.MARK + 1))
         if text is None:
             raise Refusal("it isn't the journal of a run here")
-        return Moves(self.folder, NAME, journal.decoded(text), self.say)
+        return Moves(self.folder, NAME, journal.decode(text), self.say)
 
     # Its end.
 
     def _clear_folder(self, name: bytes) -> None:
-        """Removes a folder of the stage with the files and links in it. Folders in it stay."""
-        with contextlib.suppress(FileNotFoundError), contextlib.closing(self.opened.inner(name)) as inner:
+        """Removes a folder of the work folder with the files and links in it. Folders in it stay."""
+        with contextlib.suppress(FileNotFoundError), contextlib.closing(self.inside.inner(name)) as inner:
             for entry, now in inner.entries().items():
                 if not stat.S_ISDIR(now.st_mode):
                     changes.remove_file(inner.place, entry)
@@ -163,23 +164,23 @@ class Stage:
 
     def _remove_if_empty(self, name: bytes) -> None:
         try:
-            changes.remove_folder(self.opened.place, name)
+            changes.remove_folder(self.inside.place, name)
         except OSError as fault:
             if fault.errno not in (errno.ENOTEMPTY, errno.ENOENT):
                 raise
 
     def clear(self) -> None:
-        """Removes the stage, once all files of the folder have left it. What no run has made is kept."""
+        """Removes the work folder, once all files of the folder have left it. What no run has made is kept."""
         with faults_of("remove what is in", f"{self.folder.shown}/{shown(NAME)}"):
             if self.is_own():
                 for name in FILES_OF_PAR2, MADE:
                     self._clear_folder(name)
                 self._remove_if_empty(ASIDE)
                 for name in NEW, OWNER:
-                    # (The owner is removed last, and only from a stage that has nothing else.)
-                    if name in self.opened.entries() and (name == NEW or len(self.opened.entries()) == 1):
-                        changes.remove_file(self.opened.place, name)
-            if not self.opened.entries():
+                    # (The owner is removed last, and only from a work folder that has nothing else.)
+                    if name in self.inside.entries() and (name == NEW or len(self.inside.entries()) == 1):
+                        changes.remove_file(self.inside.place, name)
+            if not self.inside.entries():
                 changes.remove_folder(self.folder.place, NAME)
             else:
                 self._keep()
@@ -192,34 +193,34 @@ class Stage:
 
 
 def is_there(folder: Folder) -> bool:
-    """Returns whether a run was ended here, or something else has the name of the stage."""
+    """Returns whether a run was ended here, or something else has the name of the work folder."""
     return not folder.is_free(NAME)
 
 
 class _Left(NamedTuple):
-    """What a run of this user has left: its stage, and the moves that it has recorded, if it got that far."""
-    stage: Stage
+    """What a run of this user has left: its work folder, and the moves that it has recorded, if it got that far."""
+    work_folder: WorkFolder
     moves: Optional[Moves]
 
 
 @contextlib.contextmanager
-def _left(folder: Folder, say: Sayer) -> Iterator[Optional[_Left]]:
-    """Opens the stage of a folder. Yields None if it isn't shown to be of a run of this user there."""
-    stage, is_own, moves = Stage(folder, seals.known_secret(), say), False, None
-    with contextlib.closing(stage):
+def _left(folder: Folder, say: Report) -> Iterator[Optional[_Left]]:
+    """Opens the work folder of a folder. Yields None if it isn't shown to be of a run of this user there."""
+    work_folder, is_own, moves = WorkFolder(folder, record_seals.known_secret(), say), False, None
+    with contextlib.closing(work_folder):
         with faults_of("open", f"{folder.shown}/{shown(NAME)}"):
             try:
-                is_own = stage.is_own()
-                moves = stage.moves() if is_own else None
+                is_own = work_folder.is_own()
+                moves = work_folder.moves() if is_own else None
             except Refusal:
                 is_own = False
             except OSError as fault:        # a link or no folder, or one that this user can't read
                 if fault.errno not in _CLOSED:
                     raise
-        yield _Left(stage, moves) if is_own else None
+        yield _Left(work_folder, moves) if is_own else None
 
 
-def say_of_earlier(folder: Folder, say: Sayer) -> None:
+def say_of_earlier(folder: Folder, say: Report) -> None:
     """Says what a run would begin with. Ends the command if that is what an ended run was doing."""
     for name in (name for name in (_EARLIER, NAME) if not folder.is_free(name)):
         if name == NAME:
@@ -230,40 +231,40 @@ def say_of_earlier(folder: Folder, say: Sayer) -> None:
             "it another name, and follows nothing in it")
 
 
-def recover(folder: Folder, say: Sayer) -> bool:
-    """Finishes what an ended run of this user was doing, or takes it back, and removes the stage. A stage that isn't
-    shown to be of one is set aside. Returns whether anything was there."""
+def recover(folder: Folder, say: Report) -> bool:
+    """Finishes what an ended run of this user was doing, or takes it back, and removes the work folder. A work folder
+    that isn't shown to be of one is set aside. Returns whether anything was there."""
     is_earlier = not folder.is_free(_EARLIER)
     if is_earlier:
-        seals.set_aside(folder, _EARLIER, EARLIER_KEPT, say)
+        record_seals.set_aside(folder, _EARLIER, EARLIER_KEPT, say)
     if folder.is_free(NAME):
         return is_earlier
     with _left(folder, say) as left:
         if left is None:
-            seals.set_aside(folder, NAME, KEPT, say)
+            record_seals.set_aside(folder, NAME, KEPT, say)
         else:
             _recover(left, say)
     return True
 
 
-def _recover(left: _Left, say: Sayer) -> None:
-    stage, moves = left
-    said = "a run was ended here, with no move left to be made"
-    with faults_of("recover", f"{stage.folder.shown}/{shown(NAME)}"):
+def _recover(left: _Left, say: Report) -> None:
+    work_folder, moves = left
+    message = "a run was ended here, with no move left to be made"
+    with faults_of("recover", f"{work_folder.folder.shown}/{shown(NAME)}"):
         if moves is not None:
-            said = _deal_with(moves)
+            message = _deal_with(moves)
             moves.sync()
-            stage.forget()
-        stage.clear()
-    say(said)
+            work_folder.forget()
+        work_folder.clear()
+    say(message)
 
 
 def _deal_with(moves: Moves) -> str:
     """Finishes the moves of an ended run, or undoes them, and returns which of the two."""
     try:
-        said = "after its moves, which stay" if moves.are_made() else "and is finished"
+        message = "after its moves, which stay" if moves.are_made() else "and is finished"
         moves.finish()
-        return f"a run was ended here{' ' if said.startswith('after') else ', '}{said}"
+        return f"a run was ended here{' ' if message.startswith('after') else ', '}{message}"
     except Refusal as why:
         try:
             moves.undo()

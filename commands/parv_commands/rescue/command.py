@@ -10,18 +10,18 @@ import stat
 import time
 from typing import Callable, Dict, List, NamedTuple, Optional, Set, Tuple
 
-from ..common import arguments, changes, output, seals, signals
-from ..common.command_files import CommandFiles, link_files, most_files_at_once, read_set
+from ..common import arguments, changes, output_and_progress as output, record_seals, signals
 from ..common.faults import FILES, NO_SET, USAGE, Fault, Refusal, faults_of
-from ..common.folders import Folder
+from ..common.files_on_command_line import CommandFiles, link_files, most_files_at_once, read_set
 from ..common.names import base_of, shown
-from ..common.packets import Member, RecoverySet, packets_for
+from ..common.opened_folder import Folder
+from ..common.packet_io import Member, RecoverySet, packets_for
 from ..common.parv import Links, Parv, temporary_folder
-from ..common.programs import finished
+from ..common.programs import run_to_end
 from ..common.search import ScannedFile, Search
-from ..common.set_state import FolderWords, Verification
-from ..common.slices import crc_of, is_there, md5_of, zeros_in_holes
-from .record import KIND, NAME, Record, Stamp, is_in, stamp_of
+from ..common.slice_content import crc_of, is_there, md5_of, zeros_in_holes
+from ..common.state_of_set import FolderWords, Verification
+from .resume_record import KIND, NAME, Record, Stamp, is_in, stamp_of
 from .writer import OTHER, PLACE_IN_USE, Writer
 
 WITHOUT_TAILS, WITH_TAILS = "expected", "tails"     # the two kinds of search, as the record names them
@@ -75,7 +75,7 @@ def open_folder(path: bytes) -> Folder:
     """Opens the folder that is written to. It must be new, empty, or have a record."""
     with faults_of("make", shown(path)):
         changes.make_path(path)
-    folder = Folder.opened(path)
+    folder = Folder.open(path)
     if folder.entries() and not is_in(folder):
         raise Fault(USAGE, f"{folder.shown} isn't empty, and has no {NAME.decode()}")
     return folder
@@ -114,7 +114,7 @@ class States:
         """Returns the state of each file. If something else is in the place of one, it is refused."""
         states = [self._unless_refused(file, self._look) for file in self.the_set.files]
         names = [file.name for file, state in zip(self.the_set.files, states) if state == WHOLE]
-        sources = finished(self.verification.sources_in_parts(names))
+        sources = run_to_end(self.verification.sources_in_parts(names))
         for number, (file, source) in enumerate(zip(self.the_set.files, sources)):
             if states[number] == WHOLE:
                 states[number] = self._unless_refused(file, functools.partial(self._verdict, source == file.name))
@@ -243,7 +243,8 @@ class Rescue:
         """Returns the place from which this kind of search goes on in these files. An earlier run may have reached
         it."""
         nothing = 0, 0, 0
-        return nothing if self.writer.is_lossy else self.writer.record.places.get((way, self.writer.mark), nothing)
+        places = {} if self.writer.must_search_again else self.writer.record.places
+        return places.get((way, self.writer.mark), nothing)
 
     def _may_find(self, search: Search, short: Set[int]) -> int:
         """Returns how many short slices a search with --tails would still look for; 0 if it would be refused."""
@@ -280,10 +281,10 @@ class Rescue:
     def _take(self, search: Search, file: Member, number: int, data: bytes, sums: bytes, message: str) -> None:
         """Writes a slice if its bytes still have its checksums."""
         if not file.sums or sums != file.sums[number - file.first]:
-            self.writer.is_lossy = True
+            self.writer.must_search_again = True
             output.say(message)
             return
-        is_taken = self.writer.takes(file, number - file.first, data)
+        is_taken = self.writer.add_slice(file, number - file.first, data)
         if is_taken:
             search.targets.discard(number)
         elif is_taken is False:
@@ -337,10 +338,10 @@ def rescue(options: Options) -> int:
         parv = Parv(program, Links(temporary, ()))
         files = link_files(parv, options.files)
         answer, the_set = read_set(parv, files, options.set_id)
-        seals.seal_to_write(KIND)       # so that nothing is made if there can't be a record
+        record_seals.seal_to_write(KIND)       # so that nothing is made if there can't be a record
         folder = open_folder(options.folder)
         writer = Writer(the_set, folder, Record(folder, the_set.id), mark_of(files, the_set))
-        parv.links.kept = (folder.place,)
+        parv.links.folders = (folder.place,)
         with faults_of("write in", temporary.shown), changes.new_file(temporary.place, DESCRIPTIONS) as opened:
             changes.write(opened, packets_for(the_set, set()))
         verification = Verification(FolderWords(folder, parv), answer, [DESCRIPTIONS.decode()], most_files, output.say)
@@ -360,7 +361,7 @@ def parser() -> arguments.Parser:
     reader.add_argument("--tails", action="store_true",
                         help="also look for missing short slices at each offset; this can take long, so leave it out "
                              "at first")
-    reader.add_argument("--set", metavar="ID", type=arguments.is_set_id, help=arguments.CHOSEN_SET)
+    reader.add_argument("--set", metavar="ID", type=arguments.set_id_of, help=arguments.CHOSEN_SET)
     return reader
 
 
@@ -374,4 +375,4 @@ def main() -> int:
             reader.error(f"{options.folder} is a file: FOLDER comes before FILES")
         return rescue(Options(os.fsencode(options.folder), list(map(os.fsencode, options.files)), options.tails,
                             options.set))
-    return arguments.ended("parv-rescue", run)
+    return arguments.run_command("parv-rescue", run)

@@ -19,14 +19,14 @@ import stat
 import time
 from typing import Dict, Iterator, List, NamedTuple, Optional, Set
 
-from ..common import changes, names, output
+from ..common import changes, names, output_and_progress as output
 from ..common.faults import FILES, Fault, Refusal, faults_of
-from ..common.folders import Folder
-from ..common.packets import Member, RecoverySet
+from ..common.opened_folder import Folder
+from ..common.packet_io import Member, RecoverySet
 from ..common.search import LINE, Search
-from ..common.signals import wait_point
-from ..common.slices import content_of, fill
-from .record import NEW, Record, Stamp, runs_of, stamp_of
+from ..common.signals import end_if_signalled
+from ..common.slice_content import content_of, fill
+from .resume_record import NEW, Record, Stamp, runs_of, stamp_of
 
 MANY = 64               # the most files and folders that are written to the disk one by one
 MOST_WAITING = 1 << 26  # the most bytes of slices that wait until they are written; each slice counts as LINE more
@@ -58,7 +58,7 @@ class Writer:
         self.refused_files: Dict[str, str] = {}     # why files are refused, by their IDs
         self.stamps: Dict[str, Stamp] = {}      # how this run has left files, or has found those that are as they were
         self.copy_count = 0                     # slices that this run has written
-        self.is_lossy = False                   # whether this run has skipped a slice that a later one may copy
+        self.must_search_again = False                   # whether this run has skipped a slice that a later one may copy
         self.has_skipped = False                # .. and one that this run may copy if it searches again
         self.is_limited = False                 # whether the system didn't allow a file its length
         self.save_time = time.monotonic()
@@ -78,14 +78,14 @@ class Writer:
 
     def _refuse_for_now(self, file: Member, why: str) -> None:
         """Refuses a file because something else is in its place, which may be gone in a later run."""
-        self.is_lossy = True
+        self.must_search_again = True
         self.refuse(file, why)
 
     def prepare(self) -> None:
         """Refuses files by their names, looks at those that are there, and makes the empty ones."""
         why = names.refusals([file.name for file in self.the_set.files], RESERVED_NAMES)
         for number, file in enumerate(self.the_set.files):
-            wait_point()
+            end_if_signalled()
             if number in why:
                 self.refuse(file, why[number])
             elif file.id in self.record.made_files or self.record.is_copy and (file.sums or file.length == 0):
@@ -181,7 +181,7 @@ class Writer:
         except FileExistsError as fault:
             raise Refusal(PLACE_IN_USE) from fault
         except OSError as fault:
-            _full(fault, file)
+            _end_if_disk_fails(fault, file)
             raise Refusal(f"its place can't be opened: {fault.strerror}") from fault
         if names.above(file.name) not in self._folders and self._levels <= MANY:
             self._folders.add(names.above(file.name))
@@ -197,7 +197,7 @@ class Writer:
             elif self._has(file):
                 self._forget(file)
                 self.record.save()
-                self.is_lossy = True
+                self.must_search_again = True
             place = self._make(file)
             try:
                 yield place
@@ -209,7 +209,7 @@ class Writer:
 
     # Slices.
 
-    def takes(self, file: Member, number: int, data: bytes) -> Optional[bool]:
+    def add_slice(self, file: Member, number: int, data: bytes) -> Optional[bool]:
         """Takes a slice that is to be written. Returns False if its file is refused, and None if the slice can't be
         written yet."""
         if file.id in self.refused_files:
@@ -218,7 +218,7 @@ class Writer:
         if begun_file is not None and file.first + number in begun_file.there:
             return True
         if begun_file is not None and file.first + number not in begun_file.odd:
-            self.is_lossy = self.has_skipped = True
+            self.must_search_again = self.has_skipped = True
             return None
         is_same = self._waiting_slices and self._waiting_slices[-1].data is data
         self._waiting_slices.append(Slice(file, number, data))
@@ -233,7 +233,7 @@ class Writer:
         try:
             self._write_all(waiting)
         except BaseException:
-            self.is_lossy = True
+            self.must_search_again = True
             raise
 
     def _write_all(self, waiting: List[Slice]) -> None:
@@ -288,7 +288,7 @@ class Writer:
         number = each.file.first + each.number
         begun_file = self._begun_files.get(each.file.id)
         if begun_file is not None and number not in begun_file.odd:   # it has come to light since the slice was taken
-            self.is_lossy = self.has_skipped = True
+            self.must_search_again = self.has_skipped = True
             return
         fill(place, each.data, each.number * self.the_set.size)
         self._there.add(number)
@@ -323,7 +323,7 @@ class Writer:
             if owner in self.stamps and owner not in self._begun_files:
                 self.record.tell("left", owner, *self.stamps[owner])
         self._there, self._written_files, self._folders, self._levels = set(), {}, set(), 0
-        if self.is_lossy:
+        if self.must_search_again:
             self.record.tell("again")
         elif search is not None:
             self.record.tell("at", way, self.mark, *search.at)
@@ -350,7 +350,7 @@ class Writer:
                     changes.sync_folder(self.folder.place)
 
 
-def _full(fault: OSError, file: Member) -> None:
+def _end_if_disk_fails(fault: OSError, file: Member) -> None:
     """Ends the command if a file can't be made because of the disk, and not because of what is in its place."""
     if fault.errno in (errno.ENOSPC, errno.EDQUOT, errno.EROFS, errno.EIO):
         raise Fault(FILES, f"cannot write {file.shown}: {fault.strerror}") from fault

@@ -11,15 +11,15 @@ import re
 from typing import (Any, Callable, Coroutine, Deque, Dict, Iterable, Iterator, List, NamedTuple, Optional,
                     Set, Tuple)
 
-from ..common import arguments, output, programs, signals
+from ..common import arguments, output_and_progress as output, programs, signals
 from ..common.faults import FILES, NO_SET, USAGE, Fault, faults_of
-from ..common.folders import Descent, Folder
 from ..common.names import is_packet_file, shown
-from ..common.packets import NO_MAIN, PacketFiles, PacketsOfFiles, set_name_of
+from ..common.opened_folder import Descent, Folder
+from ..common.packet_io import NO_MAIN, PacketFiles, SetsInPacketFiles, set_name_of
 from ..common.parv import SPARE_FILES, Links, Parv, folder_within, temporary_folder
 from ..common.programs import Program
-from ..common.set_state import FolderWords, Verification, text_of
-from .state import GONE, Key, Line, Loss, State, json_of, json_text, json_with, key_of, losses, to_remember
+from ..common.state_of_set import FolderWords, Verification, text_of
+from .lines_and_state import GONE, Key, Line, Loss, State, json_of, json_text, json_with, key_of, losses, to_remember
 
 LOST = 5                # the exit status if something was lost since the last time
 AT_ONCE = 256           # the most packet files that one run of parv lists
@@ -67,7 +67,7 @@ PARV names the program if it isn't in PATH. See man parv-tree.
 class Options(NamedTuple):
     """The folder and options of the command line."""
     folder: bytes
-    sides: int
+    jobs: int
     quiet: bool
     tails: bool
     json: bool
@@ -104,10 +104,10 @@ def _walk(top: Folder, unread_folders: List[Tuple[bytes, str]]) -> Iterator[byte
     waiting: List[bytes] = [b""]
     with contextlib.closing(Descent(top)) as descent:
         while waiting:
-            signals.wait_point()
+            signals.end_if_signalled()
             path = waiting.pop()
             try:
-                with contextlib.closing(descent.opened(path)) as folder, os.scandir(folder.place) as entries:
+                with contextlib.closing(descent.open(path)) as folder, os.scandir(folder.place) as entries:
                     for entry in entries:
                         name = os.fsencode(entry.name)
                         if name in LEFT_OUT:
@@ -127,7 +127,7 @@ class Tree:
                  state: Optional[State]) -> None:
         self.options, self.program, self.top, self.temporary, self.state = options, program, top, temporary, state
         self.most_open = programs.raise_file_limit()
-        self.sides = max(1, min(options.sides, (self.most_open - SPARE_FILES) // FILES_OF_A_RUN))
+        self.jobs = max(1, min(options.jobs, (self.most_open - SPARE_FILES) // FILES_OF_A_RUN))
         self.at_once = max(1, min(AT_ONCE, self.most_open - SPARE_FILES))
         self.places: Deque[Place] = collections.deque()
         self.waiting: Deque[Job] = collections.deque()
@@ -144,7 +144,7 @@ class Tree:
             self._find()
         self.waiting.extend(functools.partial(self._list, place) for place in self.places)
         with output.doing("sets are verified"):
-            programs.finished(self._verify())
+            programs.run_to_end(self._verify())
         if not self.count and not self.status:
             output.say(f"{self.top.shown}: no packet file")
             self._rises_to(USAGE)
@@ -171,12 +171,12 @@ class Tree:
     # The jobs.
 
     async def _verify(self) -> None:
-        """Runs the jobs in the order in which they wait, up to `sides` at once. Whenever some have ended, prints the
+        """Runs the jobs in the order in which they wait, up to `jobs` at once. Whenever some have ended, prints the
         lines that are known."""
         import asyncio
         jobs: Set[asyncio.Future[None]] = set()
         while jobs or self.waiting:
-            while self.waiting and len(jobs) < self.sides:
+            while self.waiting and len(jobs) < self.jobs:
                 jobs.add(asyncio.ensure_future(self.waiting.popleft()()))
             ended, jobs = await asyncio.wait(jobs, return_when=asyncio.FIRST_COMPLETED)
             await asyncio.gather(*ended)    # (raises the error of a job)
@@ -192,7 +192,7 @@ class Tree:
 
     async def _list(self, place: Place) -> None:
         """Finds the sets of a folder, and puts them into the queue, to be verified before all others."""
-        packets = PacketsOfFiles({}, [])
+        packets = SetsInPacketFiles({}, [])
         sets: List[OneSet] = []
         try:
             with self._words(place) as words:
@@ -210,9 +210,9 @@ class Tree:
         place.has_lines = True
         self.waiting.extendleft(functools.partial(self._verify_set, place, each) for each in reversed(sets))
 
-    async def _read(self, words: FolderWords, place: Place, packets: PacketsOfFiles, packet_files: List[bytes]) -> None:
+    async def _read(self, words: FolderWords, place: Place, packets: SetsInPacketFiles, packet_files: List[bytes]) -> None:
         """Lists the packets of packet files: in one run or, if that fails, in one run for each."""
-        here = PacketsOfFiles(words.paths, packet_files)
+        here = SetsInPacketFiles(words.paths, packet_files)
         fault: Optional[Fault] = None
         try:
             await words.parv.answer("packets", ["--", *(words.word_of(name, True) for name in packet_files)],
@@ -228,29 +228,29 @@ class Tree:
         if fault is not None:
             place.faults[packet_files[0]] = fault
 
-    def _sets(self, place: Place, packets: PacketsOfFiles, files: Optional[PacketFiles]) -> List[OneSet]:
+    def _sets(self, place: Place, packets: SetsInPacketFiles, files: Optional[PacketFiles]) -> List[OneSet]:
         """Returns the sets of a folder that are to be verified. The lines of the others are known then."""
         ids = {name: packets.ids.get(name, {}) for name in place.packet_files}
         found: Dict[str, List[bytes]] = {}
-        lost: Dict[bytes, List[bytes]] = {}
+        without_packets: Dict[bytes, List[bytes]] = {}
         for name in place.packet_files:
             for owner in ids[name]:
                 found.setdefault(owner, []).append(name)
             if not ids[name]:
-                lost.setdefault(set_name_of(name), []).append(name)
+                without_packets.setdefault(set_name_of(name), []).append(name)
         sets: List[OneSet] = []
         for owner, packet_files in found.items():
             name = set_name_of(packet_files[0])
-            each = OneSet(place.add(), owner, name, packet_files + lost.get(name, []))
+            each = OneSet(place.add(), owner, name, packet_files + without_packets.get(name, []))
             if files is None or not self._is_none(place, each, packets, files):
                 sets.append(each)
         named = {set_name_of(name) for name in place.packet_files if ids[name]}
-        for name, packet_files in lost.items():
+        for name, packet_files in without_packets.items():
             if name not in named:
-                self._lose(place, name, packet_files[0])
+                self._add_without_set(place, name, packet_files[0])
         return sets
 
-    def _is_none(self, place: Place, each: OneSet, packets: PacketsOfFiles, files: PacketFiles) -> bool:
+    def _is_none(self, place: Place, each: OneSet, packets: SetsInPacketFiles, files: PacketFiles) -> bool:
         """Returns whether it is known without parv that the packets of an ID are no set. Then the line is known too.
         This isn't said if one of its packet files could not be read."""
         if any(name in place.faults for name in each.packet_files):
@@ -260,7 +260,7 @@ class Tree:
             self._put(place, each, Line(NO_SET, each.id, None, None, place.path, each.name, why), [])
         return why is not None
 
-    def _lose(self, place: Place, name: bytes, first: bytes) -> None:
+    def _add_without_set(self, place: Place, name: bytes, first: bytes) -> None:
         """Makes the line of packet files without a packet, which belong to no set."""
         fault = place.faults.pop(first, None)
         status, reason = (NO_SET, NO_MAIN) if fault is None else (fault.status, str(fault))
@@ -375,7 +375,7 @@ def tree(options: Options) -> int:
     """Runs the command, and returns its exit status."""
     program = arguments.needed_parv()
     with contextlib.ExitStack() as used:
-        top = used.enter_context(contextlib.closing(Folder.opened(options.folder)))
+        top = used.enter_context(contextlib.closing(Folder.open(options.folder)))
         state: Optional[State] = None
         if options.state is not None:
             state = used.enter_context(contextlib.closing(State(options.state, options.folder)))
@@ -384,7 +384,7 @@ def tree(options: Options) -> int:
     return status
 
 
-def _sides(text: str) -> int:
+def _number_of_jobs(text: str) -> int:
     if not re.fullmatch("[1-9][0-9]{0,4}", text):
         raise argparse.ArgumentTypeError("it is a number from 1 to 99999")
     return int(text)
@@ -393,7 +393,7 @@ def _sides(text: str) -> int:
 def parser() -> arguments.Parser:
     reader = arguments.Parser("parv-tree", DESCRIPTION, EPILOG)
     reader.add_argument("folder", metavar="FOLDER", help="the folder above all sets")
-    reader.add_argument("-j", metavar="N", dest="sides", type=_sides, default=1,
+    reader.add_argument("-j", metavar="N", dest="jobs", type=_number_of_jobs, default=1,
                         help="verify N sets at once (default: 1)")
     reader.add_argument("-q", dest="quiet", action="store_true", help="leave out the lines of sets that are complete")
     reader.add_argument("--tails", action="store_true", help=arguments.TAILS)
@@ -411,6 +411,6 @@ def main() -> int:
             reader.error("missing argument: FOLDER")
         if options.state == "":
             reader.error("--state has no FILE")
-        return tree(Options(os.fsencode(options.folder), options.sides, options.quiet, options.tails, options.json,
+        return tree(Options(os.fsencode(options.folder), options.jobs, options.quiet, options.tails, options.json,
                           None if options.state is None else os.fsencode(options.state)))
-    return arguments.ended("parv-tree", run)
+    return arguments.run_command("parv-tree", run)

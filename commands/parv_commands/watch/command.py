@@ -8,12 +8,12 @@ import re
 import time
 from typing import NamedTuple, Optional, Sequence, Tuple
 
-from ..common import arguments, output, programs, signals
+from ..common import arguments, output_and_progress as output, programs, signals
 from ..common.faults import FILES, IMPOSSIBLE, MEMORY, POSSIBLE, USAGE, Fault, NoProgram
-from ..common.folders import Folder
+from ..common.opened_folder import Folder
 from ..common.parv import Links, Parv, temporary_folder
-from ..common.programs import Program, finished
-from ..common.set_state import FolderWords, SetState, Verification, packet_files_of, text_of
+from ..common.programs import Program, run_to_end
+from ..common.state_of_set import FolderWords, SetState, Verification, packet_files_of, text_of
 
 COMPLETE = 0
 SECONDS = 60.0      # seconds from one check to the next
@@ -40,7 +40,7 @@ PARV names the program if it isn't in PATH. See man parv-watch.
 """
 
 
-class Asked(NamedTuple):
+class Options(NamedTuple):
     """The folder and options of the command line. Without a number of checks, they go on until all files are
     complete."""
     folder: bytes
@@ -57,9 +57,9 @@ def state_of(folder: Folder, program: Program, tails: bool, most_open: int) -> S
         if not packet_files.names:
             raise Fault(USAGE, "no packet file")
         packet_words = [words.word_of(name, True) for name in packet_files.names]
-        the_set = finished(parv.set(packet_words, None))
+        the_set = run_to_end(parv.set(packet_words, None))
         verification = Verification(words, the_set, packet_words, most_open, output.say)
-        state = finished(verification.state(tails))
+        state = run_to_end(verification.state(tails))
         verification.find_links(state.sources)
         return state._replace(unread={**packet_files.unread, **state.unread})
 
@@ -90,29 +90,29 @@ def check(folder: Folder, program: Program, tails: bool, most_open: int) -> Tupl
         return fault.status, f"nothing to tell yet: {fault}"
 
 
-def watch(asked: Asked) -> int:
+def watch(options: Options) -> int:
     """Runs the command, and returns its exit status."""
     program = arguments.needed_parv()
     most_open = programs.raise_file_limit()
     count = 0
-    with contextlib.closing(Folder.opened(asked.folder)) as folder:
+    with contextlib.closing(Folder.open(options.folder)) as folder:
         while True:
-            status, line = check(folder, program, asked.tails, most_open)
+            status, line = check(folder, program, options.tails, most_open)
             output.tell([line])
             count += 1
-            if status == COMPLETE or count == asked.checks:
+            if status == COMPLETE or count == options.checks:
                 return status
             with signals.interruptible():
-                time.sleep(asked.seconds)
+                time.sleep(options.seconds)
 
 
-def asked_for(folder: str, tails: bool, numbers: Sequence[str]) -> Optional[Asked]:
+def options_of(folder: str, tails: bool, numbers: Sequence[str]) -> Optional[Options]:
     """Returns the arguments, or None if SECONDS and CHECKS aren't numbers."""
     if numbers and not re.fullmatch(r"([0-9]{1,9}(\.[0-9]{0,9})?|\.[0-9]{1,9})", numbers[0], re.ASCII):
         return None
     if len(numbers) > 1 and not re.fullmatch("[1-9][0-9]{0,17}", numbers[1], re.ASCII):
         return None
-    return Asked(os.fsencode(folder), tails, float(numbers[0]) if numbers else SECONDS,
+    return Options(os.fsencode(folder), tails, float(numbers[0]) if numbers else SECONDS,
                  int(numbers[1]) if len(numbers) > 1 else None)
 
 
@@ -129,12 +129,12 @@ def parser() -> arguments.Parser:
 def main() -> int:
     def run() -> int:
         reader = parser()
-        options = arguments.read(reader)
-        if not options.folder:
+        words = arguments.read(reader)
+        if not words.folder:
             reader.error("missing argument: FOLDER")
-        numbers = [number for number in (options.seconds, options.checks) if number is not None]
-        asked = asked_for(options.folder, options.tails, numbers)
-        if asked is None:
+        options = options_of(words.folder, words.tails, [number for number in (words.seconds, words.checks)
+                                                         if number is not None])
+        if options is None:
             reader.error("SECONDS is a number such as 60 or 0.5, and CHECKS a whole number from 1 on")
-        return watch(asked)
-    return arguments.ended("parv-watch", run)
+        return watch(options)
+    return arguments.run_command("parv-watch", run)

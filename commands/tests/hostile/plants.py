@@ -8,10 +8,10 @@ import stat
 from random import Random
 from typing import List
 
-from parv_commands.common.folders import Folder, Identity
+from parv_commands.common.opened_folder import Folder, Identity
 from parv_commands.repair import journal
 from parv_commands.repair.journal import Made, Move, Step
-from parv_commands.repair.work_folder import Stage
+from parv_commands.repair.work_folder import WorkFolder
 
 from ..rooms import SECRET, STAGE, Room
 from .promises import Log
@@ -48,11 +48,11 @@ def plant(room: Room, rng: Random, log: Log) -> None:
     if rng.random() < 0.2:
         room.put(".verify_and_repair/moves", b"1 a a\n")
         room.put(".verify_and_repair/files/q", b"of the script")
-    with contextlib.closing(Folder.opened(os.fsencode(room.folder))) as folder, \
-            contextlib.closing(Stage(folder, secret, log.add)) as place:
+    with contextlib.closing(Folder.open(os.fsencode(room.folder))) as folder, \
+            contextlib.closing(WorkFolder(folder, secret, log.add)) as place:
         if not os.path.lexists(room.path(STAGE)):
             place.make()
         steps = steps_of(room, rng)
         log.add("planted", secret, steps)
         if os.path.isdir(room.path(STAGE)):
-            room.put(f"{STAGE}/journal", place.sealed(b"journal", journal.encoded(steps)))
+            room.put(f"{STAGE}/journal", place.record_of(b"journal", journal.encode(steps)))

@@ -1,5 +1,5 @@
-"""Lets par2 make files in the stage. It gets one packet file that is written for it, and links to the files. All have
-names of their own, so par2 reads no packet that parv hasn't chosen, and no name of the set."""
+"""Lets par2 make files in the work folder. It gets one packet file that is written for it, and links to the files. All
+have names of their own, so par2 reads no packet that parv hasn't chosen, and no name of the set."""
 
 from __future__ import annotations
 
@@ -9,19 +9,19 @@ import os
 import stat
 from typing import Dict, List, NamedTuple, NoReturn, Optional, Sequence, Set
 
-from ..common import changes, output
+from ..common import changes, output_and_progress as output
 from ..common.faults import FILES, NO_REPAIR, Fault, NoProgram, Refusal, faults_of
-from ..common.folders import Folder
 from ..common.names import shown
+from ..common.opened_folder import Folder
+from ..common.packet_io import PacketFiles, RecoverySet, recovery_lines, write_for_par2
 from ..common.parv import PacketLine
-from ..common.packets import PacketFiles, RecoverySet, recovery_lines, write_for_par2
-from ..common.programs import Call, Program, answer_of, find_program, finished
+from ..common.programs import Call, Program, answer_of, find_program, run_to_end
 from ..common.search import ScannedFile
-from ..common.set_state import is_same
-from ..common.signals import wait_point
-from ..common.slices import fill
+from ..common.signals import end_if_signalled
+from ..common.slice_content import fill
+from ..common.state_of_set import is_same
 from .situation import Inspection, Situation
-from .work_folder import FILES_OF_PAR2, Stage, name_for, path_of
+from .work_folder import FILES_OF_PAR2, WorkFolder, name_for, path_of
 
 PACKETS = b"set.par2"
 _NO_LINKS = (errno.EPERM, errno.EOPNOTSUPP, errno.ENOSYS)
@@ -45,17 +45,17 @@ class Tried(NamedTuple):
 
 
 class Bench:
-    """The folder of the stage in which par2 works."""
+    """The folder of the work folder in which par2 works."""
 
-    def __init__(self, place: Folder, found: RecoverySet) -> None:
-        self.place, self.found = place, found
+    def __init__(self, place: Folder, the_set: RecoverySet) -> None:
+        self.place, self.the_set = place, the_set
 
     def write_packets(self, files: PacketFiles, recovery: Sequence[PacketLine]) -> None:
         most = sum(line.length for line in recovery)
         with output.doing("recovery slices are copied", most), faults_of("write", f"{self.place.shown}/set.par2"):
             with changes.new_file(self.place.place, PACKETS) as opened:
-                write_for_par2(opened, self.found, [name_for(number) for number in range(len(self.found.files))], files,
-                               recovery, _passed)
+                names = [name_for(number) for number in range(len(self.the_set.files))]
+                write_for_par2(opened, self.the_set, names, files, recovery, _show_progress)
 
     def link(self, name: bytes, path: bytes) -> None:
         """Shows par2 a file of the folder, under a name."""
@@ -80,8 +80,9 @@ class Bench:
         """Lets par2 repair the linked files, with files under these further names."""
         program = needed_par2()
         with output.doing("par2 repair"):
-            ended = finished(answer_of(Call(program, [b"repair", b"-q", PACKETS, *extra], self.place.place)))
-        lines = [line for line in (ended.out + b"\n" + ended.said).replace(b"\r", b"\n").split(b"\n") if line.strip()]
+            ended = run_to_end(answer_of(Call(program, [b"repair", b"-q", PACKETS, *extra], self.place.place)))
+        text = (ended.out + b"\n" + ended.standard_error).replace(b"\r", b"\n")
+        lines = [line for line in text.split(b"\n") if line.strip()]
         last = shown(lines[-1].strip()) if lines else ""
         if ended.status < 0:
             return Tried(False, f"par2 repair was ended by signal {-ended.status}")
@@ -101,24 +102,24 @@ class Bench:
         return self.place.entries()
 
 
-def _passed(done: int) -> None:
+def _show_progress(done: int) -> None:
     """Shows how far a copy has got. A signal may end the command here."""
-    wait_point()
+    end_if_signalled()
     output.show_progress(done)
 
 
-class Making:
-    """The files that par2 makes in the stage."""
+class Par2Run:
+    """The files that par2 makes in the work folder."""
 
-    def __init__(self, inspection: Inspection, situation: Situation, stage: Stage) -> None:
-        self.inspection, self.stage = inspection, stage
+    def __init__(self, inspection: Inspection, situation: Situation, work_folder: WorkFolder) -> None:
+        self.inspection, self.work_folder = inspection, work_folder
         self.the_set, self.sources, self.repairs = situation.the_set, situation.sources, situation.repairs
         self.scanned = list(inspection.verification.scanned)
 
-    def made(self) -> Dict[int, bytes]:
+    def make(self) -> Dict[int, bytes]:
         """Returns the paths of the files that were made, by their numbers."""
         inspection = self.inspection
-        with contextlib.closing(self.stage.opened.inner(FILES_OF_PAR2)) as inner:
+        with contextlib.closing(self.work_folder.inside.inner(FILES_OF_PAR2)) as inner:
             bench = Bench(inner, self.the_set)
             self._link(bench)
             bench.write_packets(inspection.packets,
@@ -154,7 +155,7 @@ class Making:
                 bench.link(name_for(number), source)
 
     def _look(self, bench: Bench) -> Dict[int, bytes]:
-        """Returns the files in the stage that are complete according to parv."""
+        """Returns the files in the work folder that are complete according to parv."""
         there = bench.entries()
         wanted = [number for number in sorted(self.repairs) if name_for(number) in there]
         paths: Dict[int, bytes] = {}
@@ -166,7 +167,7 @@ class Making:
                     paths[number] = source
             elif stat.S_ISREG(there[name].st_mode):
                 paths[number] = path_of(FILES_OF_PAR2, name)
-        sources = finished(self.inspection.verification.sources_in_parts(list(dict.fromkeys(paths.values()))))
+        sources = run_to_end(self.inspection.verification.sources_in_parts(list(dict.fromkeys(paths.values()))))
         made: Dict[int, bytes] = {}
         for number, path in paths.items():
             source = sources[number]        # the first of several files with this content
@@ -176,17 +177,17 @@ class Making:
 
     def _assemble(self, bench: Bench) -> None:
         """Puts the slices that parv has found into the files that are to be repaired, each at its offset."""
-        found = self.the_set
-        wanted = {number for one in self.repairs if found.files[one].sums for number in found.files[one].numbers}
+        the_set = self.the_set
+        wanted = {number for one in self.repairs if the_set.files[one].sums for number in the_set.files[one].numbers}
         begun: Set[int] = set()
-        owners = {number: one for one in self.repairs for number in found.files[one].numbers}
+        owners = {number: one for one in self.repairs for number in the_set.files[one].numbers}
         search = self.inspection.search(self.scanned, wanted, True)
         with contextlib.closing(search.sightings()) as sightings, faults_of("write in", self.inspection.folder.shown):
             for at, offset, number in sightings:
                 one = owners[number]
                 if one not in begun:
                     with changes.new_file(bench.place.place, name_for(one)) as opened:
-                        changes.set_length(opened, found.files[one].length)
+                        changes.set_length(opened, the_set.files[one].length)
                     begun.add(one)
                 place = changes.open_file(bench.place.place, name_for(one))
                 try:
@@ -196,12 +197,12 @@ class Making:
                 search.targets.discard(number)
 
     def _place(self, opened: int, one: int, number: int, scanned: ScannedFile, offset: int) -> None:
-        found = self.the_set
-        file = found.files[one]
+        the_set = self.the_set
+        file = the_set.files[one]
         source = scanned.opener()
         try:
-            data = os.pread(source, found.own_length(file, number - file.first), offset)
+            data = os.pread(source, the_set.own_length(file, number - file.first), offset)
         finally:
             os.close(source)
         with contextlib.suppress(Refusal):      # then par2 says that the slice is missing
-            fill(opened, data, (number - file.first) * found.size)
+            fill(opened, data, (number - file.first) * the_set.size)

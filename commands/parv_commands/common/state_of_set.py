@@ -1,7 +1,7 @@
 """Answers what state a set is in, with the files that are in a folder.
 
-It decides for all commands which files of the folder are packet files, which files parv gets and by which words, and what
-the verdict of parv means:
+It decides for all commands which files of the folder are packet files, which files parv gets and by which words, and
+what the verdict of parv means:
 
 - A file of the set is complete if parv finds its whole content in a file, and that file has its name, or the same bytes
   as the one that has. This counts only if that file has stayed the same since it was listed.
@@ -19,13 +19,14 @@ import re
 import stat
 from typing import BinaryIO, Callable, Container, Dict, Iterable, List, NamedTuple, Optional, Sequence, Tuple
 
-from . import changes, names, output
+from . import changes, names, output_and_progress as output
 from .faults import FILES, IMPOSSIBLE, NO_SET, POSSIBLE, Fault, faults_of
-from .folders import Folder, Identity, identity_of
 from .names import RESERVED_NAMES, shown
-from .packets import MAGIC
+from .opened_folder import Folder, Identity, identity_of
+from .output_and_progress import Report
+from .packet_io import MAGIC
 from .parv import MOST_FILES, SPARE_FILES, NoAnswer, Parv, SetAnswer, SetFile, Verdict, path_below
-from .signals import wait_point
+from .signals import end_if_signalled
 
 HERE = b"f"             # the link to the folder
 PLACE = 9               # bytes that an argument takes in addition to its own
@@ -33,7 +34,6 @@ PART_OF_ROOM = 4        # paths take at most a fourth of a command line's capaci
 PIECE = 1 << 20
 MOST_NAMED = 3          # how many files a line names that aren't looked at
 _NUMBER = re.compile(rb"[0-9]+(\.par2)?")
-Report = Callable[[str], None]
 Opener = Callable[[], int]
 Sources = List[Optional[bytes]]     # for each file of the set, the path of a file with its content
 Unread = Dict[bytes, str]           # what isn't looked at, and why
@@ -93,7 +93,7 @@ def packet_files_of(folder: Folder) -> PacketFileNames:
     files: List[bytes] = []
     unread: Unread = {}
     for name, now in folder.entries().items():
-        wait_point()
+        end_if_signalled()
         if names.is_packet_file(name):
             why = why_unread(folder, name, now, True)
             if why is not None:
@@ -112,7 +112,7 @@ def subfolders_of(folder: Folder, members: Iterable[bytes]) -> List[bytes]:
     """Returns the subfolders in plain names of a set, each with a slash after it."""
     is_there: Dict[bytes, bool] = {}
     for name in members:
-        wait_point()
+        end_if_signalled()
         above = names.above(name)
         if above and above not in is_there:
             with faults_of("open", shown(above)):
@@ -140,7 +140,7 @@ def files_of(folder: Folder, members: Sequence[SetFile]) -> FilesOfSet:
     there: Dict[bytes, Identity] = {}
     unread: Unread = {}
     for path in [b"", *subfolders_of(folder, own - set(refused))]:
-        wait_point()
+        end_if_signalled()
         with faults_of("open", shown(path[:-1]) or folder.shown):
             inner = folder.inner(path[:-1] or b".")
         with contextlib.closing(inner):
@@ -156,7 +156,7 @@ def files_of(folder: Folder, members: Sequence[SetFile]) -> FilesOfSet:
     return FilesOfSet(there, unread, refused)
 
 
-def preferred(there: Dict[bytes, Identity], members: Sequence[SetFile]) -> List[bytes]:
+def in_order_of_use(there: Dict[bytes, Identity], members: Sequence[SetFile]) -> List[bytes]:
     """Returns files in the order in which they are used if there are too many: those with names of the set, then those
     with the length of one of its files, then the longest."""
     own, lengths = {file.name for file in members}, {file.length for file in members}
@@ -179,7 +179,8 @@ def _is_text(word: bytes) -> bool:
 
 class FolderWords:
     """The words by which parv gets files of a folder: the path below a link to the folder, whose name parv takes off. A
-    file gets a link of its own if parv would misunderstand that word, or if the words don't all fit into a command line.
+    file gets a link of its own if parv would misunderstand that word, or if the words don't all fit into a command
+    line.
     """
 
     def __init__(self, folder: Folder, parv: Parv) -> None:
@@ -206,7 +207,7 @@ class FolderWords:
             self.parv.links.shown[shown(word)] = shown(path)
             self._by_name[shown(path)] = path
         else:
-            wait_point()
+            end_if_signalled()
             word = self.parv.links.word(path_below(self.folder, path), shown(path), is_packet_file).encode()
             self._by_name[shown(word)] = path
         self.paths[shown(word)] = path
@@ -241,7 +242,7 @@ def has_same_bytes(open_one: Opener, open_other: Opener) -> bool:
         at, sizes = 0, [os.fstat(place).st_size for place in places]
         pieces = [b"", b""] if sizes[0] == sizes[1] else [b"", b"longer"]
         while pieces[0] == pieces[1]:
-            wait_point()
+            end_if_signalled()
             pieces = [os.pread(place, PIECE, at) for place in places]
             if not any(pieces):
                 return True
@@ -314,7 +315,7 @@ class Verification:
         if len(self.scanned) > self.room:
             self.report(f"{len(files.there) - self.room} of {len(files.there)} files aren't looked at: parv takes "
                         f"{self.room} here")
-            order = preferred(files.there, self.the_set.files)
+            order = in_order_of_use(files.there, self.the_set.files)
             members = {file.name for file in self.the_set.files}
             for path in order[self.room:]:
                 files.unread[path] = f"parv takes {self.room} files"
@@ -333,7 +334,7 @@ class Verification:
         none."""
         there: Dict[bytes, Identity] = {}
         for file in self.the_set.files:
-            wait_point()
+            end_if_signalled()
             if names.refusal(file.name, RESERVED_NAMES) is not None:
                 return {}
             with faults_of("open", file.shown):

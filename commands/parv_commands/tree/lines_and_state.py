@@ -1,5 +1,5 @@
-"""What is known of each set of a tree: as a line, as a JSON object, in a file from which the next run knows what was lost
-since, and what was lost."""
+"""What is known of each set of a tree: as a line, as a JSON object, in a file from which the next run knows what was
+lost since, and what was lost."""
 
 from __future__ import annotations
 
@@ -13,8 +13,8 @@ from typing import Dict, Iterable, List, NamedTuple, Optional, Tuple, Union
 
 from ..common import changes
 from ..common.faults import FILES, IMPOSSIBLE, NO_SET, POSSIBLE, USAGE, Fault, faults_of
-from ..common.folders import Folder, Identity, identity_of
 from ..common.names import base_of, shown, unshown
+from ..common.opened_folder import Folder, Identity, identity_of
 
 HEAD = b"parv-tree state "
 VERSION = b"1"
@@ -70,12 +70,12 @@ def losses(now: Line, before: Line) -> List[Loss]:
     """Returns what a set has lost, if its state is known both times."""
     if now.status not in SAY_SOMETHING or before.status not in SAY_SOMETHING:
         return []
-    found: List[Loss] = []
+    lost: List[Loss] = []
     if now.have is not None and before.have is not None and now.have < before.have:
-        found.append(Loss(FEWER, now, before))
+        lost.append(Loss(FEWER, now, before))
     if now.status > before.status:
-        found.append(Loss(WORSE, now, before))
-    return found
+        lost.append(Loss(WORSE, now, before))
+    return lost
 
 
 def to_remember(now: Line, before: Optional[Line]) -> Line:
@@ -96,12 +96,12 @@ def json_of(line: Line, is_gone: bool = False) -> Dict[str, Value]:
             "folder": shown(line.folder[:-1]) or ".", "name": shown(line.name), "reason": line.reason}
 
 
-def json_with(fields: Dict[str, Value], found: List[Loss], before: Optional[Line]) -> Dict[str, Value]:
+def json_with(fields: Dict[str, Value], lost: List[Loss], before: Optional[Line]) -> Dict[str, Value]:
     """Adds what was lost, and what was known before."""
     earlier: Dict[str, Optional[int]] = {}
     if before is not None:
         earlier = {"status": before.status, "need": before.need, "have": before.have}
-    return {**fields, "lost": [loss.word for loss in found], "before": earlier or None}
+    return {**fields, "lost": [loss.word for loss in lost], "before": earlier or None}
 
 
 def json_text(fields: Dict[str, Value]) -> str:
@@ -127,7 +127,7 @@ class State:
         whole = os.path.realpath(path)
         self.name = base_of(whole)
         self.sets: Dict[Key, Line] = {}
-        self._folder = Folder.opened(os.path.dirname(whole))
+        self._folder = Folder.open(os.path.dirname(whole))
         try:
             self._read: Optional[Identity] = self._look()
             self._mode: Optional[int] = None
@@ -151,7 +151,7 @@ class State:
 
     # Reading.
 
-    def _refused(self, why: str, what_to_do: str) -> Fault:
+    def _refusal(self, why: str, what_to_do: str) -> Fault:
         return Fault(USAGE, f"{self.shown} {why}, and stays as it is: {what_to_do}")
 
     def _take(self) -> None:
@@ -160,30 +160,30 @@ class State:
         now = os.fstat(opened)
         if not stat.S_ISREG(now.st_mode):
             os.close(opened)
-            raise self._refused("is no regular file", "name another file")
+            raise self._refusal("is no regular file", "name another file")
         self._mode, self._read = stat.S_IMODE(now.st_mode), identity_of(now)
         with open(opened, "rb") as file, faults_of("read", self.shown):
             if file.read(len(HEAD)) != HEAD:
-                raise self._refused("is no state of parv-tree", "name another file, or one that isn't there")
+                raise self._refusal("is no state of parv-tree", "name another file, or one that isn't there")
             text = HEAD + file.read()
         self._take_text(text)
 
     def _take_text(self, text: bytes) -> None:
         first, *rest = text.split(b"\n")
         if first != HEAD + VERSION and re.fullmatch(rb"[0-9]+", first[len(HEAD):]):
-            raise self._refused("is the state of another version of parv-tree", "name another file")
+            raise self._refusal("is the state of another version of parv-tree", "name another file")
         end = text.rfind(b"md5 ")
         if text[end:] != self._end(text[:end]):
-            raise self._refused("is damaged", "move it away, and the next run begins a new one")
+            raise self._refusal("is damaged", "move it away, and the next run begins a new one")
         tree = rest[0].decode("ascii", "replace")
         if tree != f"folder {shown(self.tree)}":
-            raise self._refused(f"is the state of {tree[7:]}", f"name another file for {shown(self.tree)}")
+            raise self._refusal(f"is the state of {tree[7:]}", f"name another file for {shown(self.tree)}")
         for line in rest[1:-2]:
-            found = _LINE.fullmatch(line.decode("ascii", "replace"))
-            if found is None:
-                raise self._refused("is damaged", "move it away, and the next run begins a new one")
-            folder, slash, name = unshown(found[5]).rpartition(b"/")
-            each = Line(int(found[1]), found[2], _number(found[3]), _number(found[4]), folder + slash, name)
+            lost = _LINE.fullmatch(line.decode("ascii", "replace"))
+            if lost is None:
+                raise self._refusal("is damaged", "move it away, and the next run begins a new one")
+            folder, slash, name = unshown(lost[5]).rpartition(b"/")
+            each = Line(int(lost[1]), lost[2], _number(lost[3]), _number(lost[4]), folder + slash, name)
             self.sets[key_of(each)] = each
 
     # Writing.

@@ -73,7 +73,7 @@ class Folder:
         self.place, self.shown = place, name
 
     @classmethod
-    def opened(cls, path: bytes) -> Folder:
+    def open(cls, path: bytes) -> Folder:
         name = shown(path)
         try:
             return cls(os.open(path, os.O_RDONLY | os.O_DIRECTORY | os.O_CLOEXEC), name)
@@ -177,12 +177,12 @@ class Folder:
     def remove_folders(self, path: bytes, count: int) -> None:
         """Removes a folder and those above it, `count` in all, as far as they are there and empty."""
         parts = path.split(b"/")
-        with contextlib.ExitStack() as kept, contextlib.suppress(OSError):
-            places = [kept.enter_context(self.above(b"/".join(parts[:len(parts) - count + 1])))]
+        with contextlib.ExitStack() as stack, contextlib.suppress(OSError):
+            places = [stack.enter_context(self.above(b"/".join(parts[:len(parts) - count + 1])))]
             with contextlib.suppress(FileNotFoundError):
                 for part in parts[-count:-1]:
                     places.append(os.open(part, _WAY, dir_fd=places[-1]))
-                    kept.callback(os.close, places[-1])
+                    stack.callback(os.close, places[-1])
             for place, part in reversed(list(zip(places, parts[-count:]))):
                 with contextlib.suppress(FileNotFoundError):
                     changes.remove_folder(place, part)
@@ -196,9 +196,10 @@ class Folder:
                 if at >= first:
                     changes.sync_folder(place)
 
-    def obstacle(self, name: bytes, kept: bytes) -> Optional[str]:
+    def obstacle(self, name: bytes, reserved: bytes) -> Optional[str]:
         """Returns why no file can be at a name: something else is there, or on the way to it, or the name leads into
-        the command's own folder with the name `kept`, by another form of that name. None if nothing is in the way."""
+        the command's own folder with the name `reserved`, by another form of that name. None if nothing is in the
+        way."""
         at = 0
         with contextlib.closing(self.levels(name)) as levels:
             for place, part, now in levels:
@@ -209,7 +210,7 @@ class Folder:
                     return None if stat.S_ISREG(now.st_mode) else _obstacle(name, now, "regular file")
                 if not stat.S_ISDIR(now.st_mode):
                     return _obstacle(name[:at - 1], now, "folder")
-                if _is_at(place, kept, now):
+                if _is_at(place, reserved, now):
                     return "its name is kept for the command itself"
         return None
 
@@ -238,12 +239,12 @@ class Folder:
 
     def entries(self) -> Dict[bytes, os.stat_result]:
         """Returns what is in the folder, by names, in their order."""
-        found: Dict[bytes, os.stat_result] = {}
+        entries: Dict[bytes, os.stat_result] = {}
         with faults_of("read", self.shown):
             for name in self.names():
                 with contextlib.suppress(FileNotFoundError):
-                    found[name] = os.stat(name, dir_fd=self.place, follow_symlinks=False)
-        return found
+                    entries[name] = os.stat(name, dir_fd=self.place, follow_symlinks=False)
+        return entries
 
     def move(self, name: bytes, new_name: bytes, makes: bool = False) -> None:
         """Gives a file below the folder another name there, which must not be used yet."""
@@ -256,20 +257,20 @@ class Descent:
     the way to a deep one, so that it doesn't begin at the top each time."""
 
     def __init__(self, top: Folder) -> None:
-        self.kept: List[Tuple[bytes, Folder]] = [(b"", top)]
+        self.open_folders: List[Tuple[bytes, Folder]] = [(b"", top)]
 
-    def opened(self, path: bytes) -> Folder:
+    def open(self, path: bytes) -> Folder:
         """Opens the folder with this path. The path ends with a slash, or is empty for the top."""
-        while not path.startswith(self.kept[-1][0]):
-            self.kept.pop()[1].close()
-        above, folder = self.kept[-1]
+        while not path.startswith(self.open_folders[-1][0]):
+            self.open_folders.pop()[1].close()
+        above, folder = self.open_folders[-1]
         rest = path[len(above):]
         inner = folder.inner(rest[:-1] or b".")
         if rest.count(b"/") < _STRIDE:
             return inner
-        self.kept.append((path, inner))
+        self.open_folders.append((path, inner))
         return inner.inner(b".")
 
     def close(self) -> None:
-        for _, folder in self.kept[1:]:
+        for _, folder in self.open_folders[1:]:
             folder.close()

@@ -7,12 +7,13 @@ import contextlib
 import os
 import threading
 import time
-from typing import Dict, Iterable, Iterator, Optional
+from typing import Callable, Dict, Iterable, Iterator, Optional
 
 from .faults import FILES, Fault
 
 PROGRESS_FROM = 2.0     # seconds until the line about the progress is shown
 PROGRESS_EACH = 0.5     # seconds from one such line to the next
+Report = Callable[[str], None]      # says something about what is being done
 _OUT, _ERR = 1, 2
 
 

@@ -10,10 +10,10 @@ import os
 import stat
 from typing import BinaryIO, Dict, List, NamedTuple, Optional, Sequence, Tuple
 
-from . import output, programs
+from . import output_and_progress as output, programs
 from .faults import FILES, USAGE, Fault, faults_of
 from .names import is_packet_file, shown
-from .packets import PacketFiles, RecoverySet, list_packets, read_recovery_set
+from .packet_io import PacketFiles, RecoverySet, list_packets, read_recovery_set
 from .parv import MOST_FILES, SPARE_FILES, Parv, SetAnswer
 from .search import ScannedFile
 
@@ -76,7 +76,7 @@ def _look(path: bytes) -> os.stat_result:
 def read_set(parv: Parv, files: CommandFiles, set_id: Optional[str]) -> Tuple[SetAnswer, RecoverySet]:
     """Returns the set of the packet files: parv's answer, and the set with its packets. Without an ID of one, parv
     chooses it, and a line names others."""
-    answer = programs.finished(parv.set(files.packet_words, set_id))
+    answer = programs.run_to_end(parv.set(files.packet_words, set_id))
     listing = list_packets(parv, files.packet_words, answer.id, files.packet_bytes, MOST_OTHERS + 1)
     if set_id is None and listing.others:
         others = " ".join(listing.others[:MOST_OTHERS]) + (" .." if len(listing.others) > MOST_OTHERS else "")

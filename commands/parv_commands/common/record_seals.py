@@ -18,8 +18,8 @@ from typing import Callable, Iterator, List, Optional
 
 from . import changes
 from .faults import FILES, Fault, faults_of
-from .folders import Folder
 from .names import shown
+from .opened_folder import Folder
 from .signals import interruptible
 
 SECRET, NEW = b"secret", b"secret.new"
@@ -42,7 +42,7 @@ class Seal:
         """Returns the mark of a text that comes after another mark, or is the first one."""
         return hmac.digest(self._key, b"%d " % len(before) + before + text, "sha256").hex().encode()
 
-    def sealed(self, text: bytes) -> bytes:
+    def record_of(self, text: bytes) -> bytes:
         """Returns a whole record: a text, and a line with its mark."""
         return text + self.mark(text) + b"\n"
 
@@ -91,8 +91,8 @@ def _home() -> bytes:
 
 def state_folder() -> bytes:
     """Returns the path of the folder in which the secret is."""
-    given = os.fsencode(os.environ.get("XDG_STATE_HOME", ""))
-    return os.path.join(given if given.startswith(b"/") else os.path.join(_home(), b".local/state"), b"parv")
+    home = os.fsencode(os.environ.get("XDG_STATE_HOME", ""))
+    return os.path.join(home if home.startswith(b"/") else os.path.join(_home(), b".local/state"), b"parv")
 
 
 @contextlib.contextmanager
@@ -110,7 +110,7 @@ def _refuse_others(path: bytes, now: os.stat_result, refused: int) -> None:
         raise Fault(FILES, f"{shown(path)} is for other users too, and a secret of yours belongs into it; {_HINT}")
 
 
-def _opened(path: bytes) -> int:
+def _open_folder(path: bytes) -> int:
     place = os.open(path, os.O_RDONLY | os.O_DIRECTORY | os.O_CLOEXEC)
     try:
         _refuse_others(path, os.fstat(place), _MAY_WRITE)
@@ -193,7 +193,7 @@ def needed_secret() -> bytes:
     path = state_folder()
     with _errors(path):
         _make_folders(path)
-        place = _opened(path)
+        place = _open_folder(path)
         try:
             if _read(path, place) is None:
                 with interruptible():
@@ -215,7 +215,7 @@ def known_secret() -> Optional[bytes]:
     path = state_folder()
     with _errors(path):
         try:
-            place = _opened(path)
+            place = _open_folder(path)
         except FileNotFoundError:
             return None
         try:
@@ -238,10 +238,10 @@ def seal_to_read(kind: bytes, *places: int) -> Optional[Seal]:
 
 # What isn't the user's own.
 
-def set_aside(folder: Folder, name: bytes, kept: bytes, say: Callable[[str], None]) -> bytes:
-    """Gives an entry of a folder, which isn't shown to be the user's own, an unused name like `kept`, and returns that.
-    Nothing in it is read."""
-    new_name = folder.free_name(kept)
+def set_aside(folder: Folder, name: bytes, new_name: bytes, say: Callable[[str], None]) -> bytes:
+    """Gives an entry of a folder, which isn't shown to be the user's own, an unused name like
+    this new one, and returns that. Nothing in it is read."""
+    new_name = folder.free_name(new_name)
     with faults_of("rename", f"{folder.shown}/{shown(name)}"):
         changes.move_entry(folder.place, name, new_name)
     say(f"{shown(name)} isn't shown to be of a run of yours in this folder: nothing in it is followed, and it is now "

@@ -10,10 +10,10 @@ import os
 import zlib
 from typing import Iterable, Iterator, List, NamedTuple, Optional, Set, Tuple
 
-from . import changes, output
+from . import changes, output_and_progress as output
 from .faults import Refusal
-from .packets import Member, RecoverySet
-from .signals import wait_point
+from .packet_io import Member, RecoverySet
+from .signals import end_if_signalled
 
 PIECE = 1 << 20
 BLOCK = 4096        # zeros become a hole if they fill a block of this length, at a multiple of it
@@ -71,7 +71,7 @@ def with_progress(pieces: Iterable[bytes]) -> Iterator[bytes]:
     """Yields the pieces, and shows how many bytes they had so far. A signal may end the command between two pieces."""
     count = 0
     for piece in pieces:
-        wait_point()
+        end_if_signalled()
         yield piece
         count += len(piece)
         output.show_progress(count)
@@ -151,7 +151,7 @@ def content_of(the_set: RecoverySet, file: Member, opened: int) -> Content:
     sums_of_file = (file.sums or []) if os.fstat(opened).st_size == file.length else []
     with output.doing(f"{file.shown} is read", file.length):
         for number, sums in zip(file.numbers, sums_of_file):
-            wait_point()
+            end_if_signalled()
             offset, own = (number - file.first) * the_set.size, the_set.own_length(file, number - file.first)
             output.show_progress(offset)
             if is_there(opened, offset, own, the_set.size, sums):

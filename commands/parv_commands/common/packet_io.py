@@ -262,7 +262,7 @@ def set_name_of(name: bytes) -> bytes:
     return volume[1] if volume else front
 
 
-class PacketsOfFiles:
+class SetsInPacketFiles:
     """The answer of `parv packets`, read as it comes: for each packet file the IDs of the sets of which it has packets,
     in order; the Main packets by the ID of their set; and which sets have descriptions of files. `paths` has the packet
     files by their words, as parv shows these."""
@@ -291,7 +291,7 @@ class PacketsOfFiles:
         """Checks that the answer is complete."""
         self._packets.end()
 
-    def add(self, other: PacketsOfFiles) -> None:
+    def add(self, other: SetsInPacketFiles) -> None:
         """Adds what was read of other files."""
         self.ids.update(other.ids)
         self.described |= other.described
