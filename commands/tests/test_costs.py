@@ -12,7 +12,7 @@ from typing import Any, Callable, Dict, List
 
 from parv_commands.common.opened_folder import Folder, Identity, identity_of
 from parv_commands.common.names import shown, with_number
-from parv_commands.common.packet_io import Member, RecoverySet
+from parv_commands.common.recovery_set import Member, RecoverySet
 from parv_commands.repair import command as repair, journal
 from parv_commands.repair.journal import Made, Moves
 from parv_commands.repair.plan import ENDS, Alike, Plan, plan_of

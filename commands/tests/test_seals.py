@@ -14,10 +14,10 @@ import unittest
 import unittest.mock
 from typing import Callable, Dict, List, Optional, Tuple
 
-from parv_commands.common import arguments, changes, record_seals
+from parv_commands.common import arguments, changes, records_of_this_user
 from parv_commands.common.faults import FILES, Fault
 from parv_commands.common.opened_folder import Folder
-from parv_commands.common.record_seals import Chain, Seal
+from parv_commands.common.records_of_this_user import Chain, Seal
 
 from .rooms import FULL, KILLED, SECONDS, At, Ended, Room, logged, read, write
 
@@ -26,7 +26,7 @@ def sealing() -> int:
     """A command that does nothing but get a seal for a record, as a run that writes one."""
     def run() -> int:
         place = os.open(b".", os.O_RDONLY)
-        os.write(1, record_seals.seal_to_write(b"kind", place).mark(b"text"))
+        os.write(1, records_of_this_user.seal_to_write(b"kind", place).mark(b"text"))
         return 0
     return arguments.run_command("sealing", run)
 
@@ -149,8 +149,8 @@ class Secrets(unittest.TestCase):
 
     def test_runs_that_begin_at_once_make_one(self) -> None:
         text = ("import os, sys; sys.path.insert(0, sys.argv[1]); from parv_commands.common import seals\n"
-                "place = os.open('.', os.O_RDONLY); print(record_seals.seal_to_write(b'kind', place).mark(b'text'))")
-        above = os.path.dirname(os.path.dirname(os.path.realpath(record_seals.__file__)))
+                "place = os.open('.', os.O_RDONLY); print(records_of_this_user.seal_to_write(b'kind', place).mark(b'text'))")
+        above = os.path.dirname(os.path.dirname(os.path.realpath(records_of_this_user.__file__)))
         for _ in range(5):
             self.gone()
             runs = [subprocess.Popen([sys.executable, "-B", "-c", text, above], stdout=subprocess.PIPE,
@@ -172,7 +172,7 @@ class Secrets(unittest.TestCase):
 
     def test_reading_makes_nothing(self) -> None:
         def reads() -> int:
-            return arguments.run_command("reads", lambda: 0 if record_seals.seal_to_read(b"kind") is None else 1)
+            return arguments.run_command("reads", lambda: 0 if records_of_this_user.seal_to_read(b"kind") is None else 1)
         ended = self.room.run(reads, [])
         self.assertEqual((ended.status, ended.calls, os.path.exists(self.room.state_home)), (0, [], False), ended)
         os.makedirs(self.folder, 0o700)
@@ -248,11 +248,11 @@ class Secrets(unittest.TestCase):
                     unittest.mock.patch.object(os, "geteuid", return_value=user), \
                     unittest.mock.patch("pwd.getpwuid") as known:
                 known.return_value.pw_dir = os.path.join(self.room.top, "user")
-                self.assertEqual(record_seals.state_folder(), wanted, environment)
+                self.assertEqual(records_of_this_user.state_folder(), wanted, environment)
         with unittest.mock.patch.dict(os.environ, {}, clear=True), \
                 unittest.mock.patch("pwd.getpwuid", side_effect=KeyError(1)):
             with self.assertRaisesRegex(Fault, "no home is known .* XDG_STATE_HOME can name a folder"):
-                record_seals.state_folder()
+                records_of_this_user.state_folder()
 
 
 class Aside(unittest.TestCase):
@@ -270,7 +270,7 @@ class Aside(unittest.TestCase):
                 make(room.path(".x"))
                 before = os.lstat(room.path(".x"))
                 with unittest.mock.patch.object(changes, "_libc", object() if without else changes._libc):
-                    name = record_seals.set_aside(folder, b".x", b"x.kept", said.append)
+                    name = records_of_this_user.set_aside(folder, b".x", b"x.kept", said.append)
                 self.assertFalse(os.path.lexists(room.path(".x")))
                 self.assertTrue(os.path.samestat(before, os.lstat(room.path(os.fsdecode(name)))))
         self.assertEqual(sorted(name for name in os.listdir(room.folder) if name.startswith("x")),

@@ -115,3 +115,9 @@ def run_command(command: str, run: Callable[[], int]) -> int:
     except Exception:       # an error in the command itself must not end with a status that means something else
         output.say(f"this is a fault of {command}:\n{traceback.format_exc()}")
         return FILES
+
+
+def run_with_arguments(parser: Callable[[], Parser], run: Callable[[Parser, argparse.Namespace], int]) -> int:
+    """Reads the arguments of a command, and runs it to its end."""
+    reader = parser()
+    return run_command(reader.prog, lambda: run(reader, read(reader)))

@@ -13,8 +13,8 @@ from typing import BinaryIO, Dict, List, NamedTuple, Optional, Sequence, Tuple
 from . import output_and_progress as output, programs
 from .faults import FILES, USAGE, Fault, faults_of
 from .names import is_packet_file, shown
-from .packet_io import PacketFiles, RecoverySet, list_packets, read_recovery_set
 from .parv import MOST_FILES, SPARE_FILES, Parv, SetAnswer
+from .recovery_set import PacketFiles, RecoverySet, list_packets, read_recovery_set
 from .search import ScannedFile
 
 MOST_OTHERS = 3     # the most IDs of other sets in a message

@@ -25,8 +25,8 @@ if TYPE_CHECKING:
 
 USUAL = "/usr/local/bin:/usr/bin:/bin"      # the PATH, if none is set
 PIECE = 1 << 16
-MOST_OUTPUT = 1 << 28       # the most bytes in an answer that is folders as a whole
-MOST_SAID = 1 << 16         # the most bytes of standard error that are folders
+MOST_OUTPUT = 1 << 28       # the most bytes in an answer that is kept as a whole
+MOST_SAID = 1 << 16         # the most bytes of standard error that are kept
 _PR_SET_PDEATHSIG = 1
 _ROUNDS, _ROUND = 200, 0.01     # how often, and after how many seconds, it looks whether a group has ended
 _SOON = 0.001       # seconds until it looks first whether a program has ended that has closed its outputs

@@ -10,8 +10,8 @@ from typing import Callable, Dict, Generator, Iterator, List, NamedTuple, Sequen
 from . import changes
 from .faults import Fault, faults_of
 from .names import shown
-from .packet_io import Member, RecoverySet, packets_for
 from .parv import LONGEST_LINE, MOST_FILES, NoAnswer, Parv, Sighting, read_sighting
+from .recovery_set import Member, RecoverySet, packets_for
 from .slice_content import is_there
 
 WASTE = 1 << 24     # how many bytes may be searched in vain; each match of no target counts as LINE more

@@ -12,7 +12,7 @@ from typing import Iterable, Iterator, List, NamedTuple, Optional, Set, Tuple
 
 from . import changes, output_and_progress as output
 from .faults import Refusal
-from .packet_io import Member, RecoverySet
+from .recovery_set import Member, RecoverySet
 from .signals import end_if_signalled
 
 PIECE = 1 << 20

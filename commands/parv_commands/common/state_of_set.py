@@ -24,8 +24,8 @@ from .faults import FILES, IMPOSSIBLE, NO_SET, POSSIBLE, Fault, faults_of
 from .names import RESERVED_NAMES, shown
 from .opened_folder import Folder, Identity, identity_of
 from .output_and_progress import Report
-from .packet_io import MAGIC
 from .parv import MOST_FILES, SPARE_FILES, NoAnswer, Parv, SetAnswer, SetFile, Verdict, path_below
+from .recovery_set import MAGIC
 from .signals import end_if_signalled
 
 HERE = b"f"             # the link to the folder

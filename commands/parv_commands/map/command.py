@@ -2,6 +2,7 @@
 
 from __future__ import annotations
 
+import argparse
 import contextlib
 import os
 import secrets
@@ -12,9 +13,9 @@ from ..common import arguments, changes, output_and_progress as output, signals
 from ..common.faults import FILES, USAGE, Fault, faults_of
 from ..common.files_on_command_line import CommandFiles, link_files, most_files_at_once, read_set
 from ..common.names import base_of, shown
-from ..common.packet_io import Member, RecoverySet
 from ..common.parv import Links, NoAnswer, Parv, SetAnswer, temporary_folder
 from ..common.programs import run_to_end
+from ..common.recovery_set import Member, RecoverySet
 from ..common.search import ScannedFile, Search
 from ..common.slice_content import is_there
 from ..common.state_of_set import has_same_bytes
@@ -242,14 +243,14 @@ def parser() -> arguments.Parser:
     return reader
 
 
+def run(reader: arguments.Parser, words: argparse.Namespace) -> int:
+    if words.width is not None and words.width < 1:
+        reader.error("a line has one character at least")
+    if b"" in (words.html, words.svg):
+        reader.error("a page or a picture needs a name")
+    return draw(Options(list(map(os.fsencode, words.files)), words.tails, words.set, os.fsencode(words.base),
+                      words.width, words.html, words.svg))
+
+
 def main() -> int:
-    def run() -> int:
-        reader = parser()
-        options = arguments.read(reader)
-        if options.width is not None and options.width < 1:
-            reader.error("a line has one character at least")
-        if b"" in (options.html, options.svg):
-            reader.error("a page or a picture needs a name")
-        return draw(Options(list(map(os.fsencode, options.files)), options.tails, options.set, os.fsencode(options.base),
-                          options.width, options.html, options.svg))
-    return arguments.run_command("parv-map", run)
+    return arguments.run_with_arguments(parser, run)

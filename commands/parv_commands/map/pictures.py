@@ -5,7 +5,7 @@ from __future__ import annotations
 import html
 from typing import Dict, List, NamedTuple, Sequence, Tuple
 
-from ..common.packet_io import Member, RecoverySet
+from ..common.recovery_set import Member, RecoverySet
 
 IN_PLACE, MOVED, NOT_KNOWN, MISSING = range(4)      # from the best to the worst
 WORDS = ["in place", "moved", "not known", "missing"]

@@ -2,6 +2,7 @@
 
 from __future__ import annotations
 
+import argparse
 import contextlib
 import fcntl
 import os
@@ -270,14 +271,14 @@ def parser() -> arguments.Parser:
     return reader
 
 
+def run(reader: arguments.Parser, words: argparse.Namespace) -> int:
+    if not words.parts:
+        reader.error("missing argument: PARTS")
+    if not re.fullmatch("[1-9][0-9]{0,18}", words.limit):
+        reader.error("LIMIT is a number from 1 on")
+    return search(Options(words.tails, os.fsencode(words.parts), os.fsencode(words.limit),
+                        list(map(os.fsencode, words.files))))
+
+
 def main() -> int:
-    def run() -> int:
-        reader = parser()
-        options = arguments.read(reader)
-        if not options.parts:
-            reader.error("missing argument: PARTS")
-        if not re.fullmatch("[1-9][0-9]{0,18}", options.limit):
-            reader.error("LIMIT is a number from 1 on")
-        return search(Options(options.tails, os.fsencode(options.parts), os.fsencode(options.limit),
-                            list(map(os.fsencode, options.files))))
-    return arguments.run_command("parv-parts", run)
+    return arguments.run_with_arguments(parser, run)

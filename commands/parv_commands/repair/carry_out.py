@@ -9,7 +9,7 @@ import os
 import stat
 from typing import Callable, List, Optional, Sequence
 
-from ..common import changes, names, output_and_progress as output, record_seals, signals
+from ..common import changes, names, output_and_progress as output, records_of_this_user, signals
 from ..common.faults import FILES, Fault, Refusal, faults_of
 from ..common.names import shown
 from ..common.opened_folder import Folder, Identity, identity_of
@@ -25,7 +25,7 @@ PIECE = 1 << 20
 def carry_out(inspection: Inspection, situation: Situation, removes_backups: bool) -> List[str]:
     """Makes all files complete, and returns the lines that say what was done."""
     folder = situation.folder
-    work_folder = WorkFolder(folder, record_seals.needed_secret(), inspection.report)
+    work_folder = WorkFolder(folder, records_of_this_user.needed_secret(), inspection.report)
     moves: Optional[Moves] = None
     try:
         work_folder.make()

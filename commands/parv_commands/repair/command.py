@@ -2,6 +2,7 @@
 
 from __future__ import annotations
 
+import argparse
 import contextlib
 import fcntl
 import os
@@ -160,11 +161,11 @@ def parser() -> arguments.Parser:
     return reader
 
 
+def run(reader: arguments.Parser, words: argparse.Namespace) -> int:
+    if not words.folder:
+        reader.error("missing argument: FOLDER")
+    return repair(Options(os.fsencode(words.folder), words.dry_run, words.remove_backups, words.set))
+
+
 def main() -> int:
-    def run() -> int:
-        reader = parser()
-        options = arguments.read(reader)
-        if not options.folder:
-            reader.error("missing argument: FOLDER")
-        return repair(Options(os.fsencode(options.folder), options.dry_run, options.remove_backups, options.set))
-    return arguments.run_command("parv-repair", run)
+    return arguments.run_with_arguments(parser, run)

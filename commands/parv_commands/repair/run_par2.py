@@ -13,9 +13,9 @@ from ..common import changes, output_and_progress as output
 from ..common.faults import FILES, NO_REPAIR, Fault, NoProgram, Refusal, faults_of
 from ..common.names import shown
 from ..common.opened_folder import Folder
-from ..common.packet_io import PacketFiles, RecoverySet, recovery_lines, write_for_par2
 from ..common.parv import PacketLine
 from ..common.programs import Call, Program, answer_of, find_program, run_to_end
+from ..common.recovery_set import PacketFiles, RecoverySet, recovery_lines, write_for_par2
 from ..common.search import ScannedFile
 from ..common.signals import end_if_signalled
 from ..common.slice_content import fill

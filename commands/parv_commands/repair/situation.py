@@ -11,9 +11,9 @@ from ..common import names, output_and_progress as output
 from ..common.faults import FILES, IMPOSSIBLE, NO_REPAIR, NO_SET, USAGE, Fault, Refusal
 from ..common.names import RESERVED_NAMES, shown
 from ..common.opened_folder import Folder, Identity
-from ..common.packet_io import PacketFiles, RecoverySet, names_of_others, read_recovery_set
 from ..common.parv import Links, PacketLine, Parv, SetAnswer
 from ..common.programs import Program, run_to_end
+from ..common.recovery_set import PacketFiles, RecoverySet, names_of_others, read_recovery_set
 from ..common.search import ScannedFile, Search
 from ..common.signals import end_if_signalled
 from ..common.state_of_set import (FolderWords, PacketFileNames, SetState, Sources, Verification, is_same,

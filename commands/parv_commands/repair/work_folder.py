@@ -13,12 +13,12 @@ import os
 import stat
 from typing import Iterable, Iterator, List, NamedTuple, Optional
 
-from ..common import changes, record_seals
+from ..common import changes, records_of_this_user
 from ..common.faults import FILES, Fault, Refusal, faults_of
 from ..common.names import shown
 from ..common.opened_folder import Folder
 from ..common.output_and_progress import Report
-from ..common.record_seals import Seal
+from ..common.records_of_this_user import Seal
 from . import journal
 from .journal import ASIDE, Moves, Step
 
@@ -28,7 +28,7 @@ OWNER, JOURNAL, NEW = b"owner", b"journal", b"journal.new"
 FILES_OF_PAR2, MADE = b"files", b"made"
 PARTS = (FILES_OF_PAR2, MADE, ASIDE)
 _OWNED = b"parv-repair 2\n"
-_MOST_OWNER = len(_OWNED) + record_seals.MARK + 1
+_MOST_OWNER = len(_OWNED) + records_of_this_user.MARK + 1
 _NO_TEXT = b"?"
 _CLOSED = (errno.ENOTDIR, errno.ELOOP, errno.EACCES, errno.EPERM, errno.ENXIO, errno.ENODEV)
 _EARLIER = b".verify_and_repair"        # what the script of version 0.4.0, which parv-repair has replaced, has left
@@ -147,7 +147,7 @@ class WorkFolder:
         if self.inside.look(JOURNAL) is None:
             return None
         seal = self._seal(JOURNAL)
-        text = None if seal is None else seal.text_of(self._read(JOURNAL, journal.MOST + record_seals.MARK + 1))
+        text = None if seal is None else seal.text_of(self._read(JOURNAL, journal.MOST + records_of_this_user.MARK + 1))
         if text is None:
             raise Refusal("it isn't the journal of a run here")
         return Moves(self.folder, NAME, journal.decode(text), self.say)
@@ -206,7 +206,7 @@ class _Left(NamedTuple):
 @contextlib.contextmanager
 def _left(folder: Folder, say: Report) -> Iterator[Optional[_Left]]:
     """Opens the work folder of a folder. Yields None if it isn't shown to be of a run of this user there."""
-    work_folder, is_own, moves = WorkFolder(folder, record_seals.known_secret(), say), False, None
+    work_folder, is_own, moves = WorkFolder(folder, records_of_this_user.known_secret(), say), False, None
     with contextlib.closing(work_folder):
         with faults_of("open", f"{folder.shown}/{shown(NAME)}"):
             try:
@@ -236,12 +236,12 @@ def recover(folder: Folder, say: Report) -> bool:
     that isn't shown to be of one is set aside. Returns whether anything was there."""
     is_earlier = not folder.is_free(_EARLIER)
     if is_earlier:
-        record_seals.set_aside(folder, _EARLIER, EARLIER_KEPT, say)
+        records_of_this_user.set_aside(folder, _EARLIER, EARLIER_KEPT, say)
     if folder.is_free(NAME):
         return is_earlier
     with _left(folder, say) as left:
         if left is None:
-            record_seals.set_aside(folder, NAME, KEPT, say)
+            records_of_this_user.set_aside(folder, NAME, KEPT, say)
         else:
             _recover(left, say)
     return True

@@ -2,6 +2,7 @@
 
 from __future__ import annotations
 
+import argparse
 import contextlib
 import functools
 import hashlib
@@ -10,14 +11,14 @@ import stat
 import time
 from typing import Callable, Dict, List, NamedTuple, Optional, Set, Tuple
 
-from ..common import arguments, changes, output_and_progress as output, record_seals, signals
+from ..common import arguments, changes, output_and_progress as output, records_of_this_user, signals
 from ..common.faults import FILES, NO_SET, USAGE, Fault, Refusal, faults_of
 from ..common.files_on_command_line import CommandFiles, link_files, most_files_at_once, read_set
 from ..common.names import base_of, shown
 from ..common.opened_folder import Folder
-from ..common.packet_io import Member, RecoverySet, packets_for
 from ..common.parv import Links, Parv, temporary_folder
 from ..common.programs import run_to_end
+from ..common.recovery_set import Member, RecoverySet, packets_for
 from ..common.search import ScannedFile, Search
 from ..common.slice_content import crc_of, is_there, md5_of, zeros_in_holes
 from ..common.state_of_set import FolderWords, Verification
@@ -338,7 +339,7 @@ def rescue(options: Options) -> int:
         parv = Parv(program, Links(temporary, ()))
         files = link_files(parv, options.files)
         answer, the_set = read_set(parv, files, options.set_id)
-        record_seals.seal_to_write(KIND)       # so that nothing is made if there can't be a record
+        records_of_this_user.seal_to_write(KIND)       # so that nothing is made if there can't be a record
         folder = open_folder(options.folder)
         writer = Writer(the_set, folder, Record(folder, the_set.id), mark_of(files, the_set))
         parv.links.folders = (folder.place,)
@@ -365,14 +366,13 @@ def parser() -> arguments.Parser:
     return reader
 
 
+def run(reader: arguments.Parser, words: argparse.Namespace) -> int:
+    if not words.folder:
+        reader.error("missing argument: FOLDER")
+    if os.path.isfile(words.folder):
+        reader.error(f"{words.folder} is a file: FOLDER comes before FILES")
+    return rescue(Options(os.fsencode(words.folder), list(map(os.fsencode, words.files)), words.tails, words.set))
+
+
 def main() -> int:
-    def run() -> int:
-        reader = parser()
-        options = arguments.read(reader)
-        if not options.folder:
-            reader.error("missing argument: FOLDER")
-        if os.path.isfile(options.folder):
-            reader.error(f"{options.folder} is a file: FOLDER comes before FILES")
-        return rescue(Options(os.fsencode(options.folder), list(map(os.fsencode, options.files)), options.tails,
-                            options.set))
-    return arguments.run_command("parv-rescue", run)
+    return arguments.run_with_arguments(parser, run)

@@ -14,11 +14,11 @@ import re
 import stat
 from typing import Dict, Iterable, List, NamedTuple, Optional, Set, Tuple
 
-from ..common import changes, output_and_progress as output, record_seals
+from ..common import changes, output_and_progress as output, records_of_this_user
 from ..common.faults import FILES, USAGE, Fault, faults_of
 from ..common.names import shown
 from ..common.opened_folder import Folder
-from ..common.record_seals import Chain
+from ..common.records_of_this_user import Chain
 from ..common.search import Place
 
 NAME, NEW = b".parv-rescue", b".parv-rescue.new"
@@ -173,7 +173,7 @@ class Record:
         have a part already, if it has no other name, by which it may be a file of the user."""
         if os.fstat(self.place).st_nlink != 1:
             raise Fault(FILES, f"{self.shown} is a link")
-        self.chain = Chain(record_seals.seal_to_write(KIND, self.folder.place, self.place))
+        self.chain = Chain(records_of_this_user.seal_to_write(KIND, self.folder.place, self.place))
         data = b"".join(self.chain.line(line.encode()) for line in lines)
         with faults_of("write", self.shown):
             changes.write_at(self.place, data, 0)
@@ -205,7 +205,7 @@ class Record:
         None."""
         self.end = 0
         first, line_feed = self._first_line()
-        seal, is_cut = record_seals.seal_to_read(KIND, self.folder.place, self.place), not first
+        seal, is_cut = records_of_this_user.seal_to_read(KIND, self.folder.place, self.place), not first
         if seal is not None:
             self.chain = Chain(seal)
             whole = self.chain.line(self.head.encode())

@@ -22,7 +22,7 @@ from typing import Dict, Iterator, List, NamedTuple, Optional, Set
 from ..common import changes, names, output_and_progress as output
 from ..common.faults import FILES, Fault, Refusal, faults_of
 from ..common.opened_folder import Folder
-from ..common.packet_io import Member, RecoverySet
+from ..common.recovery_set import Member, RecoverySet
 from ..common.search import LINE, Search
 from ..common.signals import end_if_signalled
 from ..common.slice_content import content_of, fill

@@ -15,9 +15,9 @@ from ..common import arguments, output_and_progress as output, programs, signals
 from ..common.faults import FILES, NO_SET, USAGE, Fault, faults_of
 from ..common.names import is_packet_file, shown
 from ..common.opened_folder import Descent, Folder
-from ..common.packet_io import NO_MAIN, PacketFiles, SetsInPacketFiles, set_name_of
 from ..common.parv import SPARE_FILES, Links, Parv, folder_within, temporary_folder
 from ..common.programs import Program
+from ..common.recovery_set import NO_MAIN, PacketFiles, SetsInPacketFiles, set_name_of
 from ..common.state_of_set import FolderWords, Verification, text_of
 from .lines_and_state import GONE, Key, Line, Loss, State, json_of, json_text, json_with, key_of, losses, to_remember
 
@@ -403,14 +403,14 @@ def parser() -> arguments.Parser:
     return reader
 
 
+def run(reader: arguments.Parser, words: argparse.Namespace) -> int:
+    if not words.folder:
+        reader.error("missing argument: FOLDER")
+    if words.state == "":
+        reader.error("--state has no FILE")
+    return tree(Options(os.fsencode(words.folder), words.jobs, words.quiet, words.tails, words.json,
+                      None if words.state is None else os.fsencode(words.state)))
+
+
 def main() -> int:
-    def run() -> int:
-        reader = parser()
-        options = arguments.read(reader)
-        if not options.folder:
-            reader.error("missing argument: FOLDER")
-        if options.state == "":
-            reader.error("--state has no FILE")
-        return tree(Options(os.fsencode(options.folder), options.jobs, options.quiet, options.tails, options.json,
-                          None if options.state is None else os.fsencode(options.state)))
-    return arguments.run_command("parv-tree", run)
+    return arguments.run_with_arguments(parser, run)

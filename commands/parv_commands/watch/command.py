@@ -2,6 +2,7 @@
 
 from __future__ import annotations
 
+import argparse
 import contextlib
 import os
 import re
@@ -126,15 +127,15 @@ def parser() -> arguments.Parser:
     return reader
 
 
+def run(reader: arguments.Parser, words: argparse.Namespace) -> int:
+    if not words.folder:
+        reader.error("missing argument: FOLDER")
+    options = options_of(words.folder, words.tails, [number for number in (words.seconds, words.checks)
+                                                     if number is not None])
+    if options is None:
+        reader.error("SECONDS is a number such as 60 or 0.5, and CHECKS a whole number from 1 on")
+    return watch(options)
+
+
 def main() -> int:
-    def run() -> int:
-        reader = parser()
-        words = arguments.read(reader)
-        if not words.folder:
-            reader.error("missing argument: FOLDER")
-        options = options_of(words.folder, words.tails, [number for number in (words.seconds, words.checks)
-                                                         if number is not None])
-        if options is None:
-            reader.error("SECONDS is a number such as 60 or 0.5, and CHECKS a whole number from 1 on")
-        return watch(options)
-    return arguments.run_command("parv-watch", run)
+    return arguments.run_with_arguments(parser, run)

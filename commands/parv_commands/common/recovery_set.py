@@ -1,4 +1,4 @@
-"""Lists and reads the packets of which a set is made, as parv chooses them, and writes packet files from them."""
+"""A recovery set, put together from the packets that parv has chosen, and packet files that are written from them."""
 
 from __future__ import annotations
 

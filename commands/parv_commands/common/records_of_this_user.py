@@ -1,4 +1,4 @@
-"""Seals: they show that a record in a folder is this user's own, and was made for that very folder.
+"""Shows by seals that a record in a folder is this user's own, and was made for that very folder.
 
 A folder may come from anyone, with records in it that move files. So each record has a mark, which nobody makes without
 the secret in the user's state folder. The mark also depends on inodes, so that a record in a copy of its folder isn't
