@@ -150,7 +150,7 @@ class Equal(unittest.TestCase):
                 moves.undo()        # when no move has been made
                 counted.append(looks.call_count + names.call_count)
             self.assertEqual(room.listing(), before)
-            self.assertEqual(len({backup.kept for backup in plan.backups}), count)
+            self.assertEqual(len({backup.name for backup in plan.backups}), count)
         self.assertLess(counted[1], 5 * counted[0])
 
     def test_folders_are_made_once_and_removed_again(self) -> None:

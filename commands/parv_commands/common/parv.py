@@ -341,14 +341,14 @@ class Parv:
 
     async def packets(self, packet_words: Sequence[str], set_id: Optional[str] = None) -> List[PacketLine]:
         ended = await self.answer("packets", [*(["--set", set_id] if set_id else []), "--", *packet_words])
-        found = read_packets(ended.out)
-        if not all(packet.word in self.links.shown for packet in found):
+        packets = read_packets(ended.out)
+        if not all(packet.word in self.links.shown for packet in packets):
             raise NoAnswer("packets")
-        return found
+        return packets
 
-    async def verify(self, found: SetAnswer, packet_words: Sequence[str], words: Sequence[str],
+    async def verify(self, the_set: SetAnswer, packet_words: Sequence[str], words: Sequence[str],
                      tails: bool = False, most: int = 0, base: str = "") -> Verdict:
         """Returns the verdict over these files. Ends with an error of parv if there is none."""
         ended = await self.answer("verify", [*(["--tails"] if tails else []), *(["-B", base] if base else []), "--set",
-                                             found.id, "--", *packet_words, *words], (0, 1, 2), most)
-        return read_verdict(ended.out, ended.status, found)
+                                             the_set.id, "--", *packet_words, *words], (0, 1, 2), most)
+        return read_verdict(ended.out, ended.status, the_set)

@@ -54,8 +54,8 @@ def carry_out(inspection: Inspection, situation: Situation, removes_backups: boo
     with output.waiting("temporary files are removed"):
         work_folder.forget()
         work_folder.clear()
-    removed = [backup.kept for backup in removable if _remove(inspection, backup)]
-    return [*plan.lines, *(f"remove {shown(kept)}" for kept in removed), "complete"]
+    removed = [backup.name for backup in removable if _remove(inspection, backup)]
+    return [*plan.lines, *(f"remove {shown(name)}" for name in removed), "complete"]
 
 
 def _put_back(work_folder: WorkFolder, moves: Optional[Moves], inspection: Inspection) -> None:
@@ -182,16 +182,16 @@ def _removable(inspection: Inspection, backups: Sequence[Backup]) -> List[Backup
             removable.append(backup)
         else:
             file = inspection.the_set.files[backup.number]
-            inspection.report(f"{shown(backup.kept)} has no slice of {file.shown} that is found without --tails, "
+            inspection.report(f"{shown(backup.name)} has no slice of {file.shown} that is found without --tails, "
                               "and stays")
     return removable
 
 
 def _has_slices(inspection: Inspection, backup: Backup) -> bool:
     file = inspection.the_set.files[backup.number]
-    if not file.sums or inspection.verification.files.there.get(backup.kept) != backup.file:
+    if not file.sums or inspection.verification.files.there.get(backup.name) != backup.file:
         return False
-    search = inspection.search([backup.kept], set(file.numbers), False)
+    search = inspection.search([backup.name], set(file.numbers), False)
     with contextlib.closing(search.sightings()) as sightings:
         return next(sightings, None) is not None
 
@@ -199,9 +199,9 @@ def _has_slices(inspection: Inspection, backup: Backup) -> bool:
 def _remove(inspection: Inspection, backup: Backup) -> bool:
     """Removes a backup, if it is still the file that was kept."""
     folder = inspection.folder
-    with faults_of("remove", shown(backup.kept)), folder.above(backup.kept) as above:
-        if not backup.file.fits(folder.look(backup.kept)):
-            inspection.report(f"{shown(backup.kept)} has changed meanwhile, and stays")
+    with faults_of("remove", shown(backup.name)), folder.above(backup.name) as above:
+        if not backup.file.fits(folder.look(backup.name)):
+            inspection.report(f"{shown(backup.name)} has changed meanwhile, and stays")
             return False
-        changes.remove_file(above, names.base_of(backup.kept))
+        changes.remove_file(above, names.base_of(backup.name))
         return True

@@ -85,12 +85,12 @@ def _recover(folder: Folder, is_trial: bool, report: Report) -> bool:
 def _report_earlier_backups(inspection: Inspection) -> None:
     """Says which files an earlier run may have kept. They stay, since nobody knows who put them there."""
     members = {file.name for file in inspection.the_set.files}
-    kept = [path for path in sorted(inspection.verification.files.there) if path not in members
+    backups = [path for path in sorted(inspection.verification.files.there) if path not in members
             and _NUMBERED.fullmatch(path) and path.rpartition(b".")[0] in members]
-    if kept:
-        more = f" and {len(kept) - 1} more like it" if len(kept) > 1 else ""
-        inspection.report(f"--remove-backups removes only what its own run has kept: {shown(kept[0])}{more} may be of "
-                          "an earlier one, and can be removed by rm")
+    if backups:
+        more = f" and {len(backups) - 1} more like it" if len(backups) > 1 else ""
+        inspection.report(f"--remove-backups removes only what its own run has kept: {shown(backups[0])}{more} may "
+                          "be of an earlier one, and can be removed by rm")
 
 
 def _trial(inspection: Inspection, situation: Situation) -> Tuple[int, List[str]]:

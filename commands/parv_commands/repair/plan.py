@@ -29,7 +29,7 @@ class Copy(NamedTuple):
 class Backup(NamedTuple):
     """A file that makes way for the file of the set with this number, and the name under which it is kept."""
     number: int
-    kept: bytes
+    name: bytes
     file: Identity
 
 
@@ -208,20 +208,20 @@ class _Planner:
             self._asides[here] = path_of(ASIDE, b"%d" % number)
             self.moves_away.append(NewName(here, here, self._asides[here], False))
             return
-        kept = self._free_name(name)
-        self.moves_away.append(NewName(here, here, kept, True))
-        self.backups.append(Backup(number, kept, self.there[here]))
-        self.lines.append(f"keep {shown(here)} as {shown(kept)}")
+        backup = self._free_name(name)
+        self.moves_away.append(NewName(here, here, backup, True))
+        self.backups.append(Backup(number, backup, self.there[here]))
+        self.lines.append(f"keep {shown(here)} as {shown(backup)}")
 
     def _free_name(self, name: bytes) -> bytes:
         """Returns an unused name like this one. (Names that are cut for the number may be alike then. So each begins
         with the next number: if all began with 1, their cost would grow with the square of how many they are.)"""
         is_cut = not has_room_for_number(name)
-        kept = self.folder.free_name(name, self._names, self._number_of_cut if is_cut else 1)
-        self._names.add(kept)
+        free = self.folder.free_name(name, self._names, self._number_of_cut if is_cut else 1)
+        self._names.add(free)
         if is_cut:
-            self._number_of_cut = int(kept.rpartition(b".")[2]) + 1
-        return kept
+            self._number_of_cut = int(free.rpartition(b".")[2]) + 1
+        return free
 
     def _name_of(self, now: os.stat_result) -> Optional[bytes]:
         """Returns the name of a file that is found by another form of it, as on a file system that folds case."""

@@ -84,14 +84,14 @@ class Inspection:
     # The set.
 
     def _packet_files(self) -> PacketFileNames:
-        found = packet_files_of(self.folder)
-        for name, why in found.unread.items():
+        packet_files = packet_files_of(self.folder)
+        for name, why in packet_files.unread.items():
             self.report(f"{shown(name)} is a link, and isn't read" if why == "a link" else
                         f"{shown(name)} isn't read: {why}")
-        if not found.names:
-            is_closed = any(why != "a link" for why in found.unread.values())
+        if not packet_files.names:
+            is_closed = any(why != "a link" for why in packet_files.unread.values())
             raise Fault(FILES if is_closed else USAGE, "no packet file" + (" that can be read" if is_closed else ""))
-        return found
+        return packet_files
 
     def _set_of(self, packet_words: Sequence[str], set_id: Optional[str]) -> SetAnswer:
         """Returns the set of the packet files, or the one that was chosen."""

@@ -187,9 +187,9 @@ class WorkFolder:
         self.close()
 
     def _keep(self) -> None:
-        kept = self.folder.free_name(KEPT)
-        changes.move_entry(self.folder.place, NAME, kept)
-        self.say(f"what was in {shown(NAME)} isn't of a run in this folder, and is kept as {shown(kept)}")
+        name = self.folder.free_name(KEPT)
+        changes.move_entry(self.folder.place, NAME, name)
+        self.say(f"what was in {shown(NAME)} isn't of a run in this folder, and is kept as {shown(name)}")
 
 
 def is_there(folder: Folder) -> bool:

@@ -231,15 +231,15 @@ class Tree:
     def _sets(self, place: Place, packets: SetsInPacketFiles, files: Optional[PacketFiles]) -> List[OneSet]:
         """Returns the sets of a folder that are to be verified. The lines of the others are known then."""
         ids = {name: packets.ids.get(name, {}) for name in place.packet_files}
-        found: Dict[str, List[bytes]] = {}
+        by_set: Dict[str, List[bytes]] = {}
         without_packets: Dict[bytes, List[bytes]] = {}
         for name in place.packet_files:
             for owner in ids[name]:
-                found.setdefault(owner, []).append(name)
+                by_set.setdefault(owner, []).append(name)
             if not ids[name]:
                 without_packets.setdefault(set_name_of(name), []).append(name)
         sets: List[OneSet] = []
-        for owner, packet_files in found.items():
+        for owner, packet_files in by_set.items():
             name = set_name_of(packet_files[0])
             each = OneSet(place.add(), owner, name, packet_files + without_packets.get(name, []))
             if files is None or not self._is_none(place, each, packets, files):
@@ -318,19 +318,19 @@ class Tree:
         self.count += 1
         self._rises_to(line.status)
         before = None if self.state is None else self.state.sets.get(key_of(line))
-        found = [] if before is None else losses(line, before)
+        lost = [] if before is None else losses(line, before)
         if line.id is not None:
             self.sets[key_of(line)] = to_remember(line, before)
         shows = bool(line.status or not self.options.quiet)
         if self.options.json:
             fields = json_of(line)
             if self.state is not None:
-                fields = json_with(fields, found, before)
-            self._write([json_text(fields)] if shows or found else [])
+                fields = json_with(fields, lost, before)
+            self._write([json_text(fields)] if shows or lost else [])
         else:
             self._write([line.text] if shows else [])
-            self._write(loss.text for loss in found)
-        if found:
+            self._write(loss.text for loss in lost)
+        if lost:
             self._rises_to(LOST)
 
     def _write(self, lines: Iterable[str]) -> None:
