@@ -20,7 +20,8 @@ from parv_commands.repair import carry_out, command as repair, journal
 from parv_commands.repair.journal import Made, Move, Step
 from parv_commands.repair.work_folder import WorkFolder
 
-from .rooms import FULL, KILLED, SECRET, STAGE, At, Ended, Listing, Room, ends_by, logged, read, spent, write
+from .rooms import (FULL, KILLED, SECRET, STAGE, At, Ended, Listing, Room, ends_by, logged, read, set_of, spent,
+                    write)
 
 
 class Without:
@@ -68,6 +69,19 @@ class Moves(unittest.TestCase):
         self.room.rename("third", "x")
         ended = self.room.run(repair.main, ["--dry-run", "room"], PAR2="none")
         self.assertEqual((ended.status, ended.said), (1, ""), "a name needs no par2")
+
+    def test_packet_files_that_get_other_names_are_still_read_after_that(self) -> None:
+        inner = set_of({b"x": b"inside"}, 8, 1)
+        for folder in "", "sub/":
+            room = Room({"first": b"first of all", folder + "inner": inner})
+            self.addCleanup(room.close)
+            room.rename(folder + "inner", "elsewhere")
+            room.rename("set.par2", "packets")
+            room.rename("first", "other")
+            room.rename("packets", "first")
+            ended = room.run(repair.main, ["--set", room.packets[32:48].hex(), "room"])
+            self.assertEqual((ended.status, ended.last(), room.lacks()), (0, "complete", []), ended)
+            self.assertEqual(read(room.path("first.1")), room.packets)
 
     def test_a_later_run_says_of_backups_that_it_removes_none(self) -> None:
         others = "third.01", "third.0", "third.", "third.txt", "fourth.1"

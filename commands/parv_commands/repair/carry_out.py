@@ -41,7 +41,7 @@ def carry_out(inspection: Inspection, situation: Situation, removes_backups: boo
             work_folder.note(moves.steps, plan.made())
         with output.waiting("files are moved"):
             moves.make()
-        inspection.verify()
+        inspection.verify(plan.new_names())
         with output.waiting("what was moved is brought to the disk"), faults_of("write in", folder.shown):
             changes.sync_all(folder.place)
         removable = _removable(inspection, plan.backups) if removes_backups else []

@@ -59,6 +59,10 @@ class Plan(NamedTuple):
                          for each in moves] for moves in (self.moves_away, self.moves_in)]
         return [*away, *self.folders, *inward]
 
+    def new_names(self) -> Dict[bytes, bytes]:
+        """Returns the paths that files have after all moves, by those by which they are listed before."""
+        return {each.file: each.target for each in (*self.moves_away, *self.moves_in)}
+
     def made(self) -> List[bytes]:
         """Returns the paths of files in the work folder that get a name."""
         return [each.origin for each in self.moves_in if each.file not in self.there]

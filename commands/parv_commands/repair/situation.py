@@ -5,7 +5,7 @@ from __future__ import annotations
 import functools
 import re
 import stat
-from typing import Dict, List, NamedTuple, Optional, Sequence, Set
+from typing import Dict, List, Mapping, NamedTuple, Optional, Sequence, Set
 
 from ..common import names, output_and_progress as output
 from ..common.faults import FILES, IMPOSSIBLE, NO_REPAIR, NO_SET, USAGE, Fault, Refusal
@@ -173,9 +173,12 @@ class Inspection:
 
     # Later looks.
 
-    def verify(self) -> None:
-        """Ends the run unless all files are complete now. A name counts too if it is listed in another form than the
-        set has it, as on a file system that lists all names in lower case."""
+    def verify(self, new_names: Mapping[bytes, bytes]) -> None:
+        """Ends the run unless all files are complete now. Some have new names, among which may be packet files. A name
+        counts too if it is listed in another form than the set has it, as on a file system that lists all names in lower
+        case."""
+        self.verification.packet_words = [self.words.word_of(new_names.get(name, name), True)
+                                          for name in self.packet_files.names]
         self.verification.gather()
         state = run_to_end(self.verification.state())
         if not all(source is not None and (source == file.name or self._leads_to(file.name, source))
