@@ -12,6 +12,9 @@ from parv_commands.common.opened_folder import Folder
 from parv_commands.common.parv import Links, Parv, temporary_folder
 from parv_commands.common.programs import Program, run_to_end
 from parv_commands.common.state_of_set import FolderWords, SetState, Verification, files_of, packet_files_of, text_of
+from parv_commands.repair import command as repair
+from parv_commands.tree import command as tree
+from parv_commands.watch import command as watch
 
 from .rooms import PARV, Room, read, set_of, write
 
@@ -223,6 +226,13 @@ class States(unittest.TestCase):
             found = files_of(folder, self.state().the_set.files)
         self.assertEqual(set(found.refused), set(files) - {b"fine"})
         self.assertNotIn(b"../up", found.there)
+
+    def test_too_few_is_not_said_if_a_file_may_be_at_a_name_that_is_refused(self) -> None:
+        for name, status in (b"x/" * 201 + b"y", FILES), (b"x/a\\..\\b", FILES), (b"../up", IMPOSSIBLE), (b"/up", IMPOSSIBLE):
+            self.room.put("set.par2", set_of({name: b"some content of it"}, 8, 0))
+            for main, words in (watch.main, ["room", "0", "1"]), (repair.main, ["room"]), (tree.main, ["room"]):
+                ended = self.room.run(main, words)
+                self.assertEqual(ended.status, status, (name, ended))
 
     def test_the_text_names_three_and_counts_the_others(self) -> None:
         unread = {b"%d" % number: "a link" for number in range(5)}

@@ -321,13 +321,18 @@ class Verification:
                 files.unread[path] = f"parv takes {self.room} files"
             self.scanned, self._left = order[:self.room], [path for path in order[self.room:] if path in members]
 
-    def find_links(self, sources: Sources) -> None:
-        """Adds the names of the set that lead through a link to what isn't looked at."""
+    def find_unread(self, sources: Sources) -> None:
+        """Adds to what isn't looked at the names of the set that lead through a link, and those that are refused though
+        a file of the folder may have them."""
         for file, source in zip(self.the_set.files, sources):
-            if source != file.name and file.name not in self.files.refused:
+            if source == file.name:
+                continue
+            if file.name not in self.files.refused:
                 link = link_on_the_way(self.folder, file.name)
                 if link is not None:
                     self.files.unread[link] = "a link"
+            elif names.is_plain(file.name):
+                self.files.unread[file.name] = self.files.refused[file.name]
 
     def _own_files(self) -> Dict[bytes, Identity]:
         """Returns the files with the names of the set, if each is there with its length and can be read; otherwise

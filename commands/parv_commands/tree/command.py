@@ -277,11 +277,12 @@ class Tree:
                 the_set = await words.parv.set(packet_words, each.id)
                 verification = Verification(words, the_set, packet_words, self.most_open, messages.append)
                 state = await verification.state(self.options.tails, len(place.lines) > 1)
-                verification.find_links(state.sources)
+                verification.find_unread(state.sources)
                 messages += [f"the name {shown(name)} is refused: {why}"
                              for name, why in verification.files.refused.items()]
-                if state.unread:
-                    messages.append(f"not looked at: {text_of(state.unread)}")
+                others = {path: why for path, why in state.unread.items() if path not in verification.files.refused}
+                if others:
+                    messages.append(f"not looked at: {text_of(others)}")
             line = Line(state.status, each.id, state.verdict.need, state.verdict.have, place.path, each.name)
         except (Fault, OSError) as fault:
             why = _fault_of(fault)
