@@ -216,7 +216,7 @@ class States(unittest.TestCase):
         self.assertEqual(self.state().status, IMPOSSIBLE)
 
     def test_names_that_lead_elsewhere_are_refused(self) -> None:
-        files = {b"../up": b"", b"/root": b"", b".parv-repair/x": b"", b"a/./b": b"", b"x/" * 201 + b"y": b"", b"fine": b""}
+        files = {b"../up": b"", b"/root": b"", b"a/./b": b"", b"x/" * 201 + b"y": b"", b"fine": b""}
         self.room.take("set.par2")
         self.room.put("of.par2", set_of(files, 8, 1))
         write(os.path.join(self.room.top, "up"), b"")
@@ -226,6 +226,15 @@ class States(unittest.TestCase):
             found = files_of(folder, self.state().the_set.files)
         self.assertEqual(set(found.refused), set(files) - {b"fine"})
         self.assertNotIn(b"../up", found.there)
+
+    def test_files_with_names_of_the_commands_own_entries_are_read(self) -> None:
+        files = {b".parv-repair/x": b"a content", b"sub/.parv-rescue/y": b"and another", b".parv-rescue": b"or this"}
+        self.room.put("set.par2", set_of(files, 8, 1))
+        for name, data in files.items():
+            self.room.put(os.fsdecode(name), data)
+        for is_one_of_many in False, True:
+            state = self.state(is_one_of_many)
+            self.assertEqual((state.is_complete, state.status, state.unread), (True, 0, {}))
 
     def test_too_few_is_not_said_if_a_file_may_be_at_a_name_that_is_refused(self) -> None:
         for name, status in (b"x/" * 201 + b"y", FILES), (b"x/a\\..\\b", FILES), (b"../up", IMPOSSIBLE), (b"/up", IMPOSSIBLE):

@@ -21,7 +21,7 @@ from typing import BinaryIO, Callable, Container, Dict, Iterable, List, NamedTup
 
 from . import changes, names, output_and_progress as output
 from .faults import FILES, IMPOSSIBLE, NO_SET, POSSIBLE, Fault, faults_of
-from .names import RESERVED_NAMES, shown
+from .names import shown
 from .opened_folder import Folder, Identity, identity_of
 from .output_and_progress import Report
 from .parv import MOST_FILES, SPARE_FILES, NoAnswer, Parv, SetAnswer, SetFile, Verdict, path_below
@@ -134,7 +134,7 @@ def files_of(folder: Folder, members: Sequence[SetFile]) -> FilesOfSet:
     own = {file.name for file in members}
     refused: Dict[bytes, str] = {}
     for name in own:
-        why = names.refusal(name, RESERVED_NAMES)
+        why = names.refusal(name, ())       # (in the commands' own entries nothing is written, but files are read)
         if why is not None:
             refused[name] = why
     there: Dict[bytes, Identity] = {}
@@ -340,7 +340,7 @@ class Verification:
         there: Dict[bytes, Identity] = {}
         for file in self.the_set.files:
             end_if_signalled()
-            if names.refusal(file.name, RESERVED_NAMES) is not None:
+            if names.refusal(file.name, ()) is not None:
                 return {}
             with faults_of("open", file.shown):
                 now = self.folder.look(file.name)
