@@ -83,6 +83,19 @@ class Moves(unittest.TestCase):
             self.assertEqual((ended.status, ended.last(), room.lacks()), (0, "complete", []), ended)
             self.assertEqual(read(room.path("first.1")), room.packets)
 
+    def test_a_file_of_the_set_with_packets_of_another_one_chooses_no_set(self) -> None:
+        inner = set_of({b"x": b"inside"}, 8, 1)
+        room = Room({"inner": inner})
+        self.addCleanup(room.close)
+        room.rename("inner", "elsewhere")
+        ended = room.run(repair.main, ["room"])
+        self.assertEqual((ended.status, ended.last(), room.lacks()), (0, "complete", []), ended)
+        room.put("other.par2", inner)
+        self.assertEqual(room.run(repair.main, ["room"]).status, 3)
+        room.take("other.par2")
+        room.rename("set.par2", "set")
+        self.assertEqual(room.run(repair.main, ["room"]).status, 3)
+
     def test_a_later_run_says_of_backups_that_it_removes_none(self) -> None:
         others = "third.01", "third.0", "third.", "third.txt", "fourth.1"
         for name in others:

@@ -97,7 +97,9 @@ class Inspection:
         """Returns the set of the packet files, or the one that was chosen."""
         try:
             self.lines = run_to_end(self.parv.packets(packet_words))
-            sets = list(dict.fromkeys(line.set for line in self.lines if line.kind == "main"))
+            mains = [line for line in self.lines if line.kind == "main"]
+            named = [line for line in mains if names.is_packet_file(self.words.paths[line.word])]
+            sets = list(dict.fromkeys(line.set for line in named or mains))
             if set_id is None and len(sets) > 1:
                 raise Fault(USAGE, f"there are several sets, of which --set takes one: {' '.join(sets)}")
             if set_id is None and not sets:
