@@ -148,7 +148,7 @@ class Secrets(unittest.TestCase):
                 self.assertEqual(os.listdir(self.folder), ["secret"])
 
     def test_runs_that_begin_at_once_make_one(self) -> None:
-        text = ("import os, sys; sys.path.insert(0, sys.argv[1]); from parv_commands.common import seals\n"
+        text = ("import os, sys; sys.path.insert(0, sys.argv[1]); from parv_commands.common import records_of_this_user\n"
                 "place = os.open('.', os.O_RDONLY); print(records_of_this_user.seal_to_write(b'kind', place).mark(b'text'))")
         above = os.path.dirname(os.path.dirname(os.path.realpath(records_of_this_user.__file__)))
         for _ in range(5):
