@@ -37,7 +37,7 @@ from make.damaged_folders import Folder
 
 RECORD = ".parv-rescue"
 NEW = 11 * 10 ** 17         # files that are newer than this are new (in nanoseconds)
-LONGEST = 600               # seconds of a run
+LONGEST = 300               # seconds of a run
 Step = Tuple[str, ...]      # a command and its arguments, or FRESH or MORE
 FRESH, MORE = ("write the folder anew",), ("write the folder with further damage",)
 
@@ -64,10 +64,11 @@ def steps_of(folder: Folder) -> Iterator[Step]:
         yield ("parv-map", "--width", "80", *options, *every)
     for words in ["verify", "-B", top], ["verify", "-B", top, "--tails"], ["find"]:
         yield ("parv-progress", *words, *plain)
-    for words in ["parts", "20000"], ["parts", "1"], ["--tails", "parts with tails", "30000"]:
+    limit = "200" if sum(map(len, folder.files.values())) < 20000 else "5000"
+    for words in ["parts", limit], ["parts", "1"], ["--tails", "parts with tails", limit]:
         yield ("parv-parts", *words, *plain)
     if plain != every:
-        yield from [("parv-progress", "verify", "-B", top, *every), ("parv-parts", "parts of all", "20000", *every)]
+        yield from [("parv-progress", "verify", "-B", top, *every), ("parv-parts", "parts of all", limit, *every)]
     for words in ["new"], ["--tails", "new"], ["--tails", "new with tails"], *([*words, words[1]] for words in chosen):
         yield ("parv-rescue", *words, *every)
     for words in [], *chosen:
@@ -111,28 +112,31 @@ def runs_of(bin_folder: str, folder: Folder, more: Folder, names: Set[str], work
             yield step, run(bin_folder, step, work)
 
 
-def differences(before: Run, after: Run) -> List[str]:
-    """Returns lines about how two runs differ."""
+def differences(before: Run, after: Run, known: Dict[str, tuple]) -> List[str]:
+    """Returns lines about how two runs differ. `known` has how files differ already, and gets how they do now."""
     lines = [f"{before.status}, then {after.status}"] if before.status != after.status else []
     for one, other in (before.out, after.out), (before.err, after.err):
         lines += list(difflib.unified_diff(one, other, "before", "after", n=1, lineterm=""))[:20]
-    paths = {path for path in {*before.entries, *after.entries} if before.entries.get(path) != after.entries.get(path)}
-    return lines + [f"not the same afterwards: {path}" for path in sorted(paths)[:20]]
+    pairs = {path: (before.entries.get(path), after.entries.get(path)) for path in {*before.entries, *after.entries}}
+    new = sorted(path for path, pair in pairs.items() if pair[0] != pair[1] and known.get(path) != pair)
+    known.update(pairs)
+    return lines + [f"not the same afterwards: {path!a}" for path in new[:20]]
 
 
 def compare(bins: Sequence[str], names: Set[str], seed: int, real: List[str], number: int) -> Tuple[Counter, List[str]]:
     """Compares the runs over one folder. Counts them by command, status and whether they differ, and returns lines."""
     counts: Counter = Counter()
     lines: List[str] = []
+    known: Dict[str, tuple] = {}
     folder = damaged_folders.make(seed, number, real)
     more = damaged_folders.damage_more(folder, f"{seed} {number}")
     with tempfile.TemporaryDirectory() as top:
         before, after = ([*runs_of(each, folder, more, names, os.path.join(top, "work"))] for each in bins)
     for (step, one), (_, other) in zip(before, after):
-        different = differences(one, other)
+        different = differences(one, other, known)
         counts[step[0], one.status, bool(different)] += 1
         if different:
-            lines += [f"seed {seed}, number {number}, {' '.join(step)[:200]}", *(f"  {line}" for line in different)]
+            lines += [f"seed {seed}, number {number}, {' '.join(step)[:200]!a}", *(f"  {line}" for line in different)]
     counts.update((step[0], "left out", False) for step in steps_of(folder)
                   if step not in (FRESH, MORE) and step[0] not in names)
     return counts, lines

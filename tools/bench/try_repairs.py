@@ -8,7 +8,7 @@ copies of it, with each packet file of the set first in turn, until it has repai
 command must end with 0 and complete files. Otherwise it may do so, or must leave each file and folder as it was, and
 say why. Nothing may be lost: each content that was there is still there. Each exit status, also of a dry run, must
 follow from the files and from `parv verify --tails` over copies of them under plain names. If the folder has links, the
-command may also say that it hasn't looked at them. TMPDIR says on which file system.
+command may also refuse them, or say that it hasn't looked at them. TMPDIR says on which file system.
 
 It prints a line for each set, and finally how many ended in which way. The exit status is 1 if one should have ended
 differently. Needs par2 (Debian package par2). PARV is the program (crates/parv/out/parv).
@@ -26,11 +26,12 @@ sys.path[0] = os.path.dirname(os.path.dirname(os.path.realpath(__file__)))  # im
 
 from hostile.runs import PARV
 from make import damaged_folders
-from make.damaged_folders import entries_of, whole_names
+from make.damaged_folders import entries_of, read, whole_names
+from make.packets import MAGIC
 
 COMMAND = os.path.join(os.path.dirname(sys.path[0]), "commands", "bin", "parv-repair")
 STAGE = ".parv-repair"
-UNDECIDED = 6
+AT_LINKS = {4, 6}       # the statuses if a name is refused, or a file isn't looked at
 
 
 def verdict_of(top, one):
@@ -40,12 +41,13 @@ def verdict_of(top, one):
     os.mkdir(copy)
     words = []
     for name in sorted(name for name, entry in entries_of(top).items() if stat.S_ISREG(entry[0])):
-        is_packet_file = name.lower().endswith(".par2") and name not in one.files
-        above = os.path.dirname(name)
+        path, above = os.path.join(top, name), os.path.dirname(name)
+        is_packet_file = name not in one.files and (name.lower().endswith(".par2")
+                                                    or not above and read(path).startswith(MAGIC))
         if (is_packet_file and above) or (above and above not in map(os.path.dirname, one.files)):
             continue
         words.append(f"plain{len(words)}{'.par2' if is_packet_file else ''}")
-        shutil.copy(os.path.join(top, name), os.path.join(copy, words[-1]))
+        shutil.copy(path, os.path.join(copy, words[-1]))
     status = 3
     if any(word.endswith(".par2") for word in words):
         status = subprocess.run([PARV, "verify", "-q", "-q", "--tails", "--set", one.id, "--", *words], cwd=copy,
@@ -57,7 +59,7 @@ def verdict_of(top, one):
 def right_statuses(top, one, truth):
     """Returns the statuses that a dry run and a run may have."""
     status = verdict_of(top, one)
-    links = {UNDECIDED} if any(stat.S_ISLNK(mode) for mode, *_ in entries_of(top).values()) else set()
+    links = AT_LINKS if any(stat.S_ISLNK(mode) for mode, *_ in entries_of(top).values()) else set()
     if status >= 2:
         return {status} | links, {status} | links
     if len(truth.now) == len(one.files):

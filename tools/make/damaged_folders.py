@@ -27,7 +27,7 @@ from typing import Dict, List, NamedTuple, Sequence, Set, Tuple
 sys.path[0] = os.path.dirname(os.path.dirname(os.path.realpath(__file__)))  # imports are relative to tools/
 
 from make import damage
-from make.damaged_sets import cut, joined, left_out, one_of, put_in, swapped, turned_round, zeroed
+from make.damaged_sets import cut, joined, left_out, one_of, put_in, swapped, turned_round
 from make.packets import TYPES, desc_body, file_id, main_body, md5, packet
 from models.list_packets import packets_in
 
@@ -40,6 +40,7 @@ OTHER_NAMES = ["other", "from x", "new\nline", "\udce9t\udce9", "-q", "renamed a
                "image of a disc", "elsewhere/81aa", "elsewhere/deep/77", "readme.nfo"]
 MODES = [0o644, 0o644, 0o600, 0o755]
 PACKETS = ".par2"
+MOST_ZEROS = 2000
 Files = Dict[str, bytearray]
 
 
@@ -115,8 +116,9 @@ def content(chance, size: int, most: int, before: List[bytearray], real: Sequenc
         with open(chance.choice(real), "rb") as file:
             file.seek(int(chance.random() * max(0, os.fstat(file.fileno()).st_size - length)))
             data = bytearray(file.read(length))
-    if data and chance.randrange(4) == 0:
-        damage.zero(data, chance.randrange(len(data)) // size * size, size * chance.randrange(1, 6))
+    if data and 64 <= size <= 4096 and chance.randrange(4) == 0:     # (It matches at each offset of longer zeros.)
+        zeros = min(size * chance.randrange(1, 6), size + MOST_ZEROS)
+        damage.zero(data, chance.randrange(len(data)) // size * size, zeros)
     return data
 
 
@@ -179,13 +181,18 @@ def flip(chance, files):
         damage.flip(data, at)
 
 
+def zero(chance, files):
+    data, at = one_of(chance, files)
+    damage.zero(data, at, chance.choice([1, 50, MOST_ZEROS]))
+
+
 def cut_end(chance, files):
     data, _ = one_of(chance, files)
     damage.cut(data, chance.choice([max(0, len(data) - 1), len(data) // 2]))
 
 
 def grow(chance, files):
-    one_of(chance, files)[0].extend(chance.choice([b"\0", b"x", bytes(500), chance.randbytes(3000)]))
+    one_of(chance, files)[0].extend(chance.choice([b"\0", b"x", b"more", bytes(500), chance.randbytes(3000)]))
 
 
 def remove(chance, files):
@@ -220,7 +227,7 @@ def copy_file(chance, files):
     name, other = chance.choice(sorted(files)), chance.choice(OTHER_NAMES + sorted(files))
     files[other] = bytearray(files[name])
     for each in [name, other] if chance.randrange(2) else []:
-        chance.choice([flip, zeroed, put_in, left_out, cut])(chance, {each: files[each]})
+        chance.choice([flip, zero, put_in, left_out, cut])(chance, {each: files[each]})
 
 
 def link(chance, folder: Folder) -> None:
@@ -235,10 +242,9 @@ def link(chance, folder: Folder) -> None:
         folder.links["a link"] = chance.choice(["nothing", *sorted(files)])
 
 
-OF_FILES = [put_in, left_out, cut, joined, turned_round, swapped, swapped, swapped, flip, flip, flip, zeroed, cut_end,
-            grow, grow, remove, remove, rename, rename, rename, rename_all, copy_file, copy_file, copy_file, add_other]
-OF_PACKETS = [put_in, left_out, flip, flip, zeroed, cut_end, grow, remove, remove, rename, rename_all, copy_file,
-              remove_volumes, remove_volumes]
+OF_FILES = [put_in, left_out, cut, turned_round, zero, cut_end, remove, remove, rename_all, add_other,
+            *3 * [joined, swapped, flip, grow, rename, copy_file]]
+OF_PACKETS = [put_in, left_out, zero, cut_end, grow, rename, rename_all, copy_file, *2 * [flip, remove, remove_volumes]]
 
 
 def damage_folder(chance, folder: Folder, count: int) -> None:
