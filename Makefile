@@ -9,7 +9,7 @@ FISHDIR ?= $(PREFIX)/share/fish/vendor_completions.d
 DOCDIR ?= $(PREFIX)/share/doc/parv
 LIBDIR ?= $(PREFIX)/lib/parv
 EXAMPLES = $(notdir $(wildcard examples/*))
-COMMANDS = $(notdir $(wildcard commands/bin/*))
+COMMANDS = $(patsubst commands/parv_commands/%/command.py,parv-%,$(wildcard commands/parv_commands/*/command.py))
 MODULES = $(patsubst commands/%,%,$(wildcard commands/parv_commands/*.py commands/parv_commands/*/*.py))
 CRATE ?= parv
 SIZE ?= small
@@ -88,7 +88,9 @@ format:
 install:
 	@test -x $(PARV) || { echo "There is no program at $(PARV): 'make build' builds it." >&2; exit 1; }
 	install -D -m 755 $(PARV) "$(DESTDIR)$(PREFIX)/bin/parv"
-	install -m 755 $(COMMANDS:%=commands/bin/%) "$(DESTDIR)$(PREFIX)/bin"
+	for name in $(COMMANDS); do \
+		install -m 755 commands/parv_commands/launcher "$(DESTDIR)$(PREFIX)/bin/$$name" || exit 1; \
+	done
 	for module in $(MODULES); do \
 		install -D -m 644 "commands/$$module" "$(DESTDIR)$(LIBDIR)/$$module" || exit 1; \
 	done

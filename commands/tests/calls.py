@@ -16,7 +16,9 @@ from parv_commands.common.signals import SIGNALS
 
 from .rooms import PARV, SECONDS, Room, write
 
-BIN = os.path.join(os.path.dirname(os.path.dirname(os.path.realpath(parv_commands.__file__ or ""))), "bin")
+ABOVE = os.path.dirname(os.path.dirname(os.path.realpath(parv_commands.__file__ or "")))
+BIN = os.path.join(ABOVE, "bin")
+subprocess.run([os.path.join(ABOVE, "make_bin.sh")], check=True)
 Ended = Tuple[int, str, str]
 MAKES: Dict[str, List[str]] = {"ext4": ["mkfs.ext4", "-q", "-F"], "xfs": ["mkfs.xfs", "-q"], "btrfs": ["mkfs.btrfs", "-q"],
                                "ntfs": ["mkfs.ntfs", "-F", "-q"], "exfat": ["mkfs.exfat"]}

@@ -29,7 +29,8 @@ from make import damaged_folders
 from make.damaged_folders import entries_of, read, whole_names
 from make.packets import MAGIC
 
-COMMAND = os.path.join(os.path.dirname(sys.path[0]), "commands", "bin", "parv-repair")
+COMMANDS = os.path.join(os.path.dirname(sys.path[0]), "commands")
+COMMAND = os.path.join(COMMANDS, "bin", "parv-repair")
 STAGE = ".parv-repair"
 AT_LINKS = {4, 6}       # the statuses if a name is refused, or a file isn't looked at
 
@@ -106,6 +107,7 @@ def end_of(top, folder, one):
 
 def main():
     options = damaged_folders.parser_of(__doc__).parse_args()
+    subprocess.run([os.path.join(COMMANDS, "make_bin.sh")], check=True)
     ends = Counter()
     for number in range(options.first, options.first + options.sets):
         folder = damaged_folders.make(options.seed, number, options.content)

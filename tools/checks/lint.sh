@@ -10,7 +10,7 @@ failed=0
 
 # headed SUFFIX WORD: prints the files with this suffix, and those whose first line calls a program of this name.
 headed() {
-    find tools commands examples .ci -name __pycache__ -prune -o -type f -print 2> "$work/none" | while IFS= read -r file; do
+    find tools commands examples .ci \( -name __pycache__ -o -path commands/bin \) -prune -o -type f -print 2> "$work/none" | while IFS= read -r file; do
         case $file in
         *"$1") echo "$file" ;;
         */launcher) [ "$1" != .py ] || echo "$file" ;;      # (sh reads its first lines, but it is Python.)

@@ -6,6 +6,7 @@ set -uo pipefail
 tools=$(cd "$(dirname "${BASH_SOURCE[0]}")/../.." && pwd)
 top=$(dirname "$tools")
 parv=${PARV:-$top/crates/parv/out/parv}
+"$top/commands/make_bin.sh" || exit 1
 work=$(mktemp -d)
 trap 'rm -rf "$work"' EXIT
 said=$work/.said
