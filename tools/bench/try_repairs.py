@@ -61,6 +61,8 @@ def right_statuses(top, one, truth):
     """Returns the statuses that a dry run and a run may have."""
     status = verdict_of(top, one)
     links = AT_LINKS if any(stat.S_ISLNK(mode) for mode, *_ in entries_of(top).values()) else set()
+    if status == 3:     # (A file of the set may begin with a packet, and is one of no set then.)
+        links = links | {4}
     if status >= 2:
         return {status} | links, {status} | links
     if len(truth.now) == len(one.files):
