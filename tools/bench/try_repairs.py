@@ -43,12 +43,12 @@ def verdict_of(top, one):
     words = []
     for name in sorted(name for name, entry in entries_of(top).items() if stat.S_ISREG(entry[0])):
         path, above = os.path.join(top, name), os.path.dirname(name)
-        is_packet_file = name not in one.files and (name.lower().endswith(".par2")
-                                                    or not above and read(path).startswith(MAGIC))
-        if (is_packet_file and above) or (above and above not in map(os.path.dirname, one.files)):
-            continue
-        words.append(f"plain{len(words)}{'.par2' if is_packet_file else ''}")
-        shutil.copy(path, os.path.join(copy, words[-1]))
+        has_name = name.lower().endswith(".par2")
+        is_packet_file = not above and (has_name or read(path).startswith(MAGIC))
+        is_scanned = not has_name and not is_packet_file and above in ["", *map(os.path.dirname, one.files)]
+        for suffix in [".par2"] * is_packet_file + [""] * (is_scanned or name in one.files):
+            words.append(f"plain{len(words)}{suffix}")
+            shutil.copy(path, os.path.join(copy, words[-1]))
     status = 3
     if any(word.endswith(".par2") for word in words):
         status = subprocess.run([PARV, "verify", "-q", "-q", "--tails", "--set", one.id, "--", *words], cwd=copy,
