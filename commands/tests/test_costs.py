@@ -117,7 +117,7 @@ class Equal(unittest.TestCase):
 
     def plan(self, folder: Folder, members: List[bytes], there: Dict[bytes, Identity]) -> Plan:
         """Returns the plan for files of which none is complete, and each is made."""
-        files = [Member("", number, 1, 1, shown(name), name, b"", b"", None, None) for number, name in enumerate(members)]
+        files = [Member("", number, 1, 1, shown(name), name, b"", None, None) for number, name in enumerate(members)]
         recovery_set = RecoverySet("", 1, "", files, b"", 0)
         return plan_of(Situation(folder, recovery_set, there, [None] * len(files), set(), set(), ""))
 

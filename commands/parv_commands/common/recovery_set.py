@@ -38,7 +38,6 @@ class Member(NamedTuple):
     slices: int
     shown: str
     name: bytes
-    whole: bytes
     description: bytes
     sums: Optional[List[bytes]]
     sums_packet: Optional[bytes]
@@ -193,9 +192,9 @@ def read_recovery_set(answer: SetAnswer, files: PacketFiles, lines: Iterable[Pac
         for file in answer.files:
             description = packets["filedesc", file.id]
             sums = packets["ifsc", file.id, file.slices] if file.has_sums else None
-            members.append(Member(file.id, first, file.length, file.slices, file.shown, file.name, description[80:96],
-                                  description, None if sums is None else
-                                  [sums[at:at + PAIR] for at in range(80, len(sums), PAIR)], sums))
+            pairs = None if sums is None else [sums[at:at + PAIR] for at in range(80, len(sums), PAIR)]
+            members.append(Member(file.id, first, file.length, file.slices, file.shown, file.name, description, pairs,
+                                  sums))
             first += file.slices
         return RecoverySet(answer.id, answer.size, answer.line, members, packets["main",], answer.have)
     except KeyError as fault:

@@ -321,7 +321,7 @@ class Verification:
                 files.unread[path] = f"parv takes {self.room} files"
             self.scanned, self._left = order[:self.room], [path for path in order[self.room:] if path in members]
 
-    def find_unread(self, sources: Sources) -> None:
+    def _find_unread(self, sources: Sources) -> None:
         """Adds to what isn't looked at the names of the set that lead through a link, and those that are refused though
         a file of the folder may have them."""
         for file, source in zip(self.the_set.files, sources):
@@ -374,6 +374,7 @@ class Verification:
         state = await self._state(self.files, self.scanned, tails)
         more = await self.sources_in_parts(self._left)
         state = state._replace(sources=[source or other for source, other in zip(state.sources, more)])
+        self._find_unread(state.sources)
         self._refuse_changed(state)
         return state
 
@@ -384,14 +385,13 @@ class Verification:
         if not there or is_listed_otherwise or len(there) > self.room:
             return None
         state = await self._state(FilesOfSet(there, self.files.unread, {}), list(there), tails)
+        self._refuse_changed(state)
         return state if state.is_complete else None
 
     async def _state(self, files: FilesOfSet, paths: Sequence[bytes], tails: bool) -> SetState:
         verdict, sources = await self.words.verify(self.the_set, self.packet_words, paths, tails,
                                                    _most_bytes(files.there, paths, tails))
-        state = SetState(self.the_set, files.there, self._own_sources(sources, files.there), verdict, files.unread)
-        self._refuse_changed(state)
-        return state
+        return SetState(self.the_set, files.there, self._own_sources(sources, files.there), verdict, files.unread)
 
     def _refuse_changed(self, state: SetState) -> None:
         """Ends this if the set seems to be complete, but one of its files has changed since it was listed."""

@@ -142,7 +142,6 @@ class Inspection:
 
     def _too_few(self, state: SetState, refusal: Optional[Fault]) -> Fault:
         """Returns the error that not enough is left for a repair. If something wasn't looked at, nobody knows that."""
-        self.verification.find_unread(state.sources)
         for name, now in self.folder.entries().items():
             if stat.S_ISDIR(now.st_mode) and _SET_ASIDE.fullmatch(name):    # files of the set may be there
                 state.unread[name] = "set aside"

@@ -277,7 +277,6 @@ class Tree:
                 the_set = await words.parv.set(packet_words, each.id)
                 verification = Verification(words, the_set, packet_words, self.most_open, messages.append)
                 state = await verification.state(self.options.tails, len(place.lines) > 1)
-                verification.find_unread(state.sources)
                 messages += [f"the name {shown(name)} is refused: {why}"
                              for name, why in verification.files.refused.items()]
                 others = {path: why for path, why in state.unread.items() if path not in verification.files.refused}

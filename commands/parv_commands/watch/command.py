@@ -61,7 +61,6 @@ def state_of(folder: Folder, program: Program, tails: bool, most_open: int) -> S
         the_set = run_to_end(parv.set(packet_words, None))
         verification = Verification(words, the_set, packet_words, most_open, output.say)
         state = run_to_end(verification.state(tails))
-        verification.find_unread(state.sources)
         return state._replace(unread={**packet_files.unread, **state.unread})
 
 
